@@ -1,0 +1,5 @@
+pub mod Fault
+pub mod Lambda
+pub mod Box
+pub mod Places
+pub mod Held

@@ -1,0 +1,7 @@
+// Tables of tests over the whole library.
+#[cfg(test)]
+mod box_tests;
+#[cfg(test)]
+mod length_tests;
+#[cfg(test)]
+mod source_tests;

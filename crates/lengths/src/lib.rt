@@ -1,0 +1,4 @@
+// Kinds of length: the trait that every kind keeps, and the two kinds delivered.
+pub mod grid;
+pub mod length;
+pub mod strict;

@@ -1,0 +1,26 @@
+// Packs the cell of a small inverter and prints the work.
+mod inverter;
+mod report;
+
+use boxes::source::BoxPlaces;
+use boxes::source::BoxSource;
+use inverter::figures;
+use report::make_boxes;
+use report::print_boxes;
+use report::print_rules;
+use std::error::AnyError;
+
+// Grid steps for one lambda.
+const FACTOR: u32 = 10;
+
+fn run(rt: &LibcRuntime) -> Result<(), AnyError> {
+    println!(rt, "An inverter, {FACTOR} grid steps to the lambda.")?;
+    let made = make_boxes(rt, &figures())?;
+    print_boxes(rt, &made)?;
+    let source = BoxSource::from_boxes(FACTOR, &made);
+    print_rules(rt, &source)
+}
+
+fn main(rt: LibcRuntime) -> Result<(), AnyError> {
+    rt.report(run(&rt))
+}

@@ -1,0 +1,4 @@
+pub mod Fault
+pub mod Rule
+pub mod Source
+pub mod Limited
