@@ -1,0 +1,5 @@
+pub mod Tags
+pub mod Sound
+pub mod Striking
+pub mod Entries
+pub mod Withdrawals

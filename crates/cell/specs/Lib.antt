@@ -1,0 +1,4 @@
+pub mod Fault
+pub mod Book
+pub mod Calls
+pub mod Memory
