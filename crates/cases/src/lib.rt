@@ -2,6 +2,8 @@
 #[cfg(test)]
 mod box_tests;
 #[cfg(test)]
+mod cell_tests;
+#[cfg(test)]
 mod length_tests;
 #[cfg(test)]
 mod source_tests;

@@ -88,6 +88,7 @@ module _ {L : Type 0} where
   refused k c tag rule fault check why = record {
     answers = sym check;
     marks-kept = refl;
+    lent-kept = refl;
     book-after = sym (ap (λ r. cond (isOk r) (book c ++ record { tag = tag; rule = rule } ∷ []) (book c)) check);
     memory-after = refl;
     found = λ e. absurd (false≢true e);
@@ -111,6 +112,7 @@ module _ {L : Type 0} where
       record {
         answers = sym check;
         marks-kept = a .marks-kept;
+        lent-kept = a .lent-kept;
         book-after = now-book ∙ sym (ap (λ r. cond (isOk r) (book c ++ x ∷ []) (book c)) check);
         memory-after = a .memory-after;
         found = λ _. ap (λ b. look-up b tag) now-book ∙ look-up-push (book c) x new;

@@ -3,3 +3,4 @@ pub mod Sound
 pub mod Striking
 pub mod Entries
 pub mod Withdrawals
+pub mod EditSteps

@@ -58,9 +58,11 @@ module _ {L : Type 0} (n : ℕ) where
       tagged : (i : ℕ) (d : Record L) → i < length (x ∷ book) → getD (x ∷ book) i d .tag ≡ 0 → ⊥
       tagged zero d h = f .tagged
       tagged (suc i) d h = s .tagged i d (omega arith)
+
       joining : (i : ℕ) (d : Record L) → i < length (x ∷ book) → joins n (getD (x ∷ book) i d .rule) ≡ true
       joining zero d h = f .joining
       joining (suc i) d h = s .joining i d (omega arith)
+
       apart : (i j : ℕ) (d : Record L) → i < j → j < length (x ∷ book) → getD (x ∷ book) i d .tag ≡ getD (x ∷ book) j d .tag → ⊥
       apart zero zero d l h e = omega arith
       apart zero (suc j) d l h e = no-tag-at book (x .tag) (f .once) j d (omega arith) (sym e)

@@ -68,16 +68,22 @@ module _ {X : Type 0} where
   pub source : (book : List X) (i k : ℕ) → i < length book → k < length book - 1 → (m : ℕ) × Source book i k m
   source book i k h l =
       ⊎-elim
-      (λ (e : k ≡ i). (length book - 1, record {
-        within = omega arith;
-        same = λ d. moved d ∙ ap (λ j. getD (set book i (getD book (length book - 1) d)) j d) e ∙ getD-set-same book i (getD book (length book - 1) d) d h;
-        which = inl (e, refl);
-      }))
-      (λ (ne : k ≡ i → ⊥). (k, record {
-        within = omega arith;
-        same = λ d. moved d ∙ getD-set-other book i k (getD book (length book - 1) d) d ne;
-        which = inr (ne, refl);
-      }))
+      (λ (e : k ≡ i). (
+        length book - 1,
+        record {
+          within = omega arith;
+          same = λ d. moved d ∙ ap (λ j. getD (set book i (getD book (length book - 1) d)) j d) e ∙ getD-set-same book i (getD book (length book - 1) d) d h;
+          which = inl (e, refl);
+        },
+      ))
+      (λ (ne : k ≡ i → ⊥). (
+        k,
+        record {
+          within = omega arith;
+          same = λ d. moved d ∙ getD-set-other book i k (getD book (length book - 1) d) d ne;
+          which = inr (ne, refl);
+        },
+      ))
       (cases-eq k i)
     where
       moved : (d : X) → getD (struck book i) k d ≡ getD (set book i (getD book (length book - 1) d)) k d
@@ -121,14 +127,14 @@ module _ {L : Type 0} (n : ℕ) (book : List (Record L)) (i : ℕ) (s : Sound n 
   target m l ne =
       ⊎-elim
       (λ (below : m < length book - 1).
-          let q = source book i m h below in
-          let stays : q .0 ≡ m = omega (arith, q .1 .which) in
-          (m, below, λ d. q .1 .same d ∙ ap (λ j. getD book j d) stays))
+      let q = source book i m h below in
+      let stays : q .0 ≡ m = omega (arith, q .1 .which) in
+      (m, below, λ d. q .1 .same d ∙ ap (λ j. getD book j d) stays))
       (λ (end : length book - 1 ≤ m).
-          let room : i < length book - 1 = omega arith in
-          let q = source book i i h room in
-          let moved : q .0 ≡ m = omega (arith, q .1 .which) in
-          (i, room, λ d. q .1 .same d ∙ ap (λ j. getD book j d) moved))
+      let room : i < length book - 1 = omega arith in
+      let q = source book i i h room in
+      let moved : q .0 ≡ m = omega (arith, q .1 .which) in
+      (i, room, λ d. q .1 .same d ∙ ap (λ j. getD book j d) moved))
       (cases-lt m (length book - 1))
 
   -- every other rule is kept
@@ -139,6 +145,7 @@ module _ {L : Type 0} (n : ℕ) (book : List (Record L)) (i : ℕ) (s : Sound n 
       gone none = no-tag-from (struck book i) other (λ k d′ l same.
           let q = from-where k d′ l in
           no-tag-at book other none (q .0) d′ (q .1 .within) (sym (tag-of (q .1 .same d′)) ∙ same))
+
       there : (m : ℕ) × FoundAt book other m → look-up (struck book i) other ≡ look-up book other
       there f =
           let t = target (f .0) (f .1 .within) (λ same. ne (sym (f .1 .here d) ∙ ap (λ j. getD book j d .tag) same ∙ e)) in

@@ -37,6 +37,7 @@ module _ {L : Type 0} where
   refused c tag fault check = record {
     answers = sym check;
     marks-kept = refl;
+    lent-kept = refl;
     book-after = sym (ap (λ r. cond (isOk r) (struck (book c) (place-of (book c) tag)) (book c)) check);
     memory-after = refl;
     gone = λ e. absurd (false≢true e);
@@ -62,6 +63,7 @@ module _ {L : Type 0} where
       record {
         answers = sym check;
         marks-kept = a .marks-kept;
+        lent-kept = a .lent-kept;
         book-after = now-book ∙ ap (struck (book c)) (sym at) ∙ sym (ap (λ r. cond (isOk r) (struck (book c) (place-of (book c) tag)) (book c)) check);
         memory-after = a .memory-after ∙ ap (copied (memory c) (c .filled - 1)) (sym at);
         gone = λ _. ap (λ b. look-up b tag) now-book ∙ no-rule (struck (book c) place) tag (struck-tag (c .marks) (book c) place s (f .within) tag d (f .here d));

@@ -2,3 +2,4 @@ pub mod Fault
 pub mod Book
 pub mod Calls
 pub mod Memory
+pub mod Edits

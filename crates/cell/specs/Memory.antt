@@ -4,7 +4,7 @@ use mathlib.Core.List.{List, []}
 use mathlib.Core.Bool.{cond, true}
 use Prim.Native.Nat.{ℕ, _+_, _-_}
 use lib.ListN.{length, take, set}
-use denote.Ref.{now}
+use denote.Ref.{RefT, name, now}
 use Rattle.std.specs.Results.{isOk}
 use Rattle.std.specs.declared.option.Option.the-variants.{None, Some}
 use Rattle.std.specs.declared.result.Result.{Result}
@@ -28,21 +28,25 @@ module _ {L : Type 0} where
   abbrev pub book : Cell L → List (Record L)
   book c = take (c .filled) (memory c)
 
-  -- A new cell: no rules, and all records as they were.
-  pub record Makes (count : ℕ) (passed : List (Record L)) (c : Cell L) : Type 0 where
+  -- A new cell: no rules, and all records as they were. It works on the records passed and on no others (`name`
+  -- tells one lent memory from another).
+  pub record Makes (count : ℕ) (passed : RefT (List (Record L))) (c : Cell L) : Type 0 where
     pub marks-are : c .marks ≡ cell-marks count
     pub filled-are : c .filled ≡ 0
-    pub memory-is : memory c ≡ passed
+    pub memory-is : memory c ≡ now passed
+    pub lent : name (c .records) ≡ name passed
 
   -- One record more, and no other touched.
   pub record Appends (c : Cell L) (new : Record L) (after : Cell L) : Type 0 where
     pub marks-kept : after .marks ≡ c .marks
+    pub lent-kept : name (after .records) ≡ name (c .records)
     pub filled-after : after .filled ≡ c .filled + 1
     pub memory-after : memory after ≡ set (memory c) (c .filled) new
 
   -- One record less: the last filled one is copied into its place, and no other is touched.
   pub record Strikes (c : Cell L) (place : ℕ) (after : Cell L) : Type 0 where
     pub marks-kept : after .marks ≡ c .marks
+    pub lent-kept : name (after .records) ≡ name (c .records)
     pub filled-after : after .filled + 1 ≡ c .filled
     pub memory-after : memory after ≡ copied (memory c) (c .filled - 1) place
 
@@ -50,6 +54,7 @@ module _ {L : Type 0} where
   pub record Enters (k : Kind L) (c : Cell L) (tag : ℕ) (rule : Rule L) (answer : Result (Unit {0}) EntryFault) (after : Cell L) : Type 0 where
     pub answers : answer ≡ entry-check k (c .marks) (used (length (memory c))) (book c) tag rule
     pub marks-kept : after .marks ≡ c .marks
+    pub lent-kept : name (after .records) ≡ name (c .records)
     pub book-after : book after ≡ entered k (c .marks) (used (length (memory c))) (book c) tag rule
     pub memory-after : memory after ≡ cond (isOk answer) (set (memory c) (c .filled) (record { tag = tag; rule = rule })) (memory c)
     -- the rule is found under its tag, and every other as before; no tag stands twice
@@ -64,6 +69,7 @@ module _ {L : Type 0} where
   pub record Withdraws (c : Cell L) (tag : ℕ) (answer : Result (Unit {0}) WithdrawalFault) (after : Cell L) : Type 0 where
     pub answers : answer ≡ withdrawal-check (book c) tag
     pub marks-kept : after .marks ≡ c .marks
+    pub lent-kept : name (after .records) ≡ name (c .records)
     pub book-after : book after ≡ withdrawn (book c) tag
     pub memory-after : memory after ≡ cond (isOk answer) (copied (memory c) (c .filled - 1) (place-of (book c) tag)) (memory c)
     -- exactly the rule under the tag is struck; no tag stands twice

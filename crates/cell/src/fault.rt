@@ -4,7 +4,9 @@ ghost use Rattle.cell.specs.Fault.{marks-fault-number, entry-fault-number, wit
 ghost use Rattle.cell.specs.declared.fault.EntryFault.the-variants.{Unfit};
 use rules::fault::RuleFault;
 use rules::fault::RuleFaultDebug;
+use rules::fault::RuleFaultDisplay;
 use rules::fault::RuleFaultPartialEq;
+use std::fmt;
 
 #[derive(Clone, Copy, PartialEq, Eq, Debug)]
 pub enum MarksFault {
@@ -53,7 +55,7 @@ pub impl From<RuleFault> for EntryFault as UnfitEntry {
     ghost converts = { λ f r. r ≡ Unfit f };
 
     fn from(fault: RuleFault) -> EntryFault {
-        EntryFault::Unfit(fault)
+        Self::Unfit(fault)
     }
 }
 
@@ -74,5 +76,35 @@ impl WithdrawalFault {
             WithdrawalFault::NoTag => 2,
             WithdrawalFault::TagNotInForce => 8,
         }
+    }
+}
+
+pub impl fmt::Display for MarksFault as MarksFaultDisplay {
+    fn fmt<W: fmt::Write>(&self, f: &mut fmt::Formatter<W>) -> fmt::Result {
+        match self {
+            MarksFault::MarkCount => f.write_str("a cell has 1 to 256 marks"),
+        }
+    }
+}
+
+pub impl fmt::Display for EntryFault as EntryFaultDisplay {
+    fn fmt<W: fmt::Write>(&self, f: &mut fmt::Formatter<W>) -> fmt::Result {
+        match self {
+            EntryFault::NoTag => f.write_str("tag 0 is no tag"),
+            EntryFault::Unfit(fault) => write!(f, "{fault}"),
+            EntryFault::TagInForce => f.write_str("a rule is in force under the tag"),
+            EntryFault::Full => f.write_str("every record holds a rule in force"),
+        }
+    }
+}
+
+pub impl fmt::Display for WithdrawalFault as WithdrawalFaultDisplay {
+    fn fmt<W: fmt::Write>(&self, f: &mut fmt::Formatter<W>) -> fmt::Result {
+        f.write_str(
+            match self {
+                WithdrawalFault::NoTag => "tag 0 is no tag",
+                WithdrawalFault::TagNotInForce => "no rule is in force under the tag",
+            },
+        )
     }
 }

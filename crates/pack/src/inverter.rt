@@ -2,6 +2,9 @@
 // half below, and the polysilicon gate across both.
 use boxes::figures::Figures;
 
+// Mark 0 is the left border of the cell; each box has two marks of its own.
+pub(crate) const MARKS: usize = 13;
+
 fn figure(layer: u8, left: u16, right: u16, bottom: i32, top: i32) -> Figures {
     Figures {
         layer,
@@ -12,7 +15,6 @@ fn figure(layer: u8, left: u16, right: u16, bottom: i32, top: i32) -> Figures {
     }
 }
 
-// Mark 0 is the left border of the cell; each box has two marks of its own.
 pub(crate) fn figures() -> [Figures; 6] {
     [
         figure(0, 1, 2, 340, 800),

@@ -1,9 +1,11 @@
 // Packs the cell of a small inverter and prints the work.
+mod designer;
 mod inverter;
 mod report;
 
 use boxes::source::BoxPlaces;
 use boxes::source::BoxSource;
+use designer::edit_rules;
 use inverter::figures;
 use report::make_boxes;
 use report::print_boxes;
@@ -18,7 +20,8 @@ fn run(rt: &LibcRuntime) -> Result<(), AnyError> {
     let made = make_boxes(rt, &figures())?;
     print_boxes(rt, &made)?;
     let source = BoxSource::from_boxes(FACTOR, &made);
-    print_rules(rt, &source)
+    print_rules(rt, &source)?;
+    edit_rules(rt)
 }
 
 fn main(rt: LibcRuntime) -> Result<(), AnyError> {

@@ -20,7 +20,7 @@ pub fn check_marks(count: usize) -> Result<(), MarksFault>
 impl<'m, L> Cell<'m, L> {
     // A cell with no rules, of one mark where the count is refused. No record is touched.
     pub fn new(count: usize, records: &'m mut [Record<L>]) -> Cell<'m, L>
-        ensures { λ r. ⌜ Makes count (now (records .entry)) r ⌝ }
+        ensures { λ r. ⌜ Makes count (records .entry) r ⌝ }
     {
         let marks = match check_marks(count) {
             Ok(()) => count,

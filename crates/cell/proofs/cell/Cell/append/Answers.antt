@@ -13,7 +13,13 @@ offset-self-at g c = let inside : c .args .self .now .filled < length (c .args .
 pub ghost-self : need.ghost-self
 ghost-self g c =
     let mem = c .args .self .now .records .now in
-    let at = c .args .self .now .filled in
-    (c .args .self .now .some, (c .args .self .now .few,
-    (omega (arith, length-set mem at (c .args .new)),
-    (ap (sound (c .args .self .now .marks)) (take-more-set mem at (c .args .new) (omega arith)) ∙ c .pre .1, tt))))
+    let at = c .args .self .now .filled in (
+      c .args .self .now .some,
+      (
+        c .args .self .now .few,
+        (
+          omega (arith, length-set mem at (c .args .new)),
+          (ap (sound (c .args .self .now .marks)) (take-more-set mem at (c .args .new) (omega arith)) ∙ c .pre .1, tt),
+        ),
+      ),
+    )

@@ -44,10 +44,11 @@ returns-then-self-used g c =
 pub append-requires : need.append-requires
 append-requires g c κs =
     let told = c .args .self .now in
-    let new = tag-missed (book told) (c .args .tag) (c .place-of .result) (c .place-of .ensures) (sym (c .is-some .ensures) ∙ c .if-is-some .left) in
-    (omega (arith, c .used .ensures, c .if-self-used .left),
-    sound-push (told .marks) (book told) (record { tag = c .args .tag; rule = c .args .rule }) (told .sound) (c .if-tag-eq0 .left)
-    (fits-joins (g .L·Length .kind) (told .marks) (c .args .rule) (sym (c .in-Continue-check .ensures tt))) new)
+    let new = tag-missed (book told) (c .args .tag) (c .place-of .result) (c .place-of .ensures) (sym (c .is-some .ensures) ∙ c .if-is-some .left) in (
+      omega (arith, c .used .ensures, c .if-self-used .left),
+      sound-push (told .marks) (book told) (record { tag = c .args .tag; rule = c .args .rule }) (told .sound) (c .if-tag-eq0 .left)
+          (fits-joins (g .L·Length .kind) (told .marks) (c .args .rule) (sym (c .in-Continue-check .ensures tt))) new,
+    )
 
 pub returns : need.returns
 returns g c =

@@ -21,10 +21,20 @@ ghost-self g c =
     let mem = told .records .now in
     let last : told .filled - 1 < told .filled = omega (arith, c .pre) in
     let within : told .filled ≤ length mem = omega (arith, told .room) in
-    let inside : told .filled - 1 < length mem = omega arith in
-    (told .some, (told .few, (omega (arith, told .room),
-    (ap (λ xs. sound (told .marks) (take (told .filled - 1) xs)) (sym (copied-itself mem (told .filled - 1) inside))
-    ∙ sound-front (told .marks) mem (told .filled) (told .filled - 1) (told .sound) within last, tt))))
+    let inside : told .filled - 1 < length mem = omega arith in (
+      told .some,
+      (
+        told .few,
+        (
+          omega (arith, told .room),
+          (
+            ap (λ xs. sound (told .marks) (take (told .filled - 1) xs)) (sym (copied-itself mem (told .filled - 1) inside))
+                ∙ sound-front (told .marks) mem (told .filled) (told .filled - 1) (told .sound) within last,
+            tt,
+          ),
+        ),
+      ),
+    )
 
 pub ghost-self-2 : need.ghost-self-2
 ghost-self-2 g c =
@@ -32,10 +42,20 @@ ghost-self-2 g c =
     let mem = told .records .now in
     let d = c .index-self-last .result in
     let within : told .filled ≤ length mem = omega (arith, told .room) in
-    let inside : told .filled - 1 < length mem = omega (arith, c .pre) in
-    (told .some, (told .few, (omega (arith, told .room, length-set mem (c .args .place) (getD mem (told .filled - 1) d)),
-    (ap (λ xs. sound (told .marks) (take (told .filled - 1) xs)) (sym (copied-any mem (told .filled - 1) (c .args .place) d inside))
-    ∙ sound-front (told .marks) mem (told .filled) (c .args .place) (told .sound) within (c .pre), tt))))
+    let inside : told .filled - 1 < length mem = omega (arith, c .pre) in (
+      told .some,
+      (
+        told .few,
+        (
+          omega (arith, told .room, length-set mem (c .args .place) (getD mem (told .filled - 1) d)),
+          (
+            ap (λ xs. sound (told .marks) (take (told .filled - 1) xs)) (sym (copied-any mem (told .filled - 1) (c .args .place) d inside))
+                ∙ sound-front (told .marks) mem (told .filled) (c .args .place) (told .sound) within (c .pre),
+            tt,
+          ),
+        ),
+      ),
+    )
 
 pub returns-then-place-last : need.returns-then-place-last
 returns-then-place-last g c =
@@ -44,6 +64,7 @@ returns-then-place-last g c =
     let inside : told .filled - 1 < length mem = omega (arith, c .pre, told .room) in
     record {
       marks-kept = refl;
+      lent-kept = refl;
       filled-after = omega (arith, c .pre);
       memory-after = sym (ap (copied mem (told .filled - 1)) (c .if-place-last .taken) ∙ copied-itself mem (told .filled - 1) inside);
     }
@@ -55,6 +76,7 @@ returns g c =
     let inside : told .filled - 1 < length mem = omega (arith, c .pre, told .room) in
     record {
       marks-kept = refl;
+      lent-kept = refl;
       filled-after = omega (arith, c .pre);
       memory-after = sym (copied-any mem (told .filled - 1) (c .args .place) (c .index-self-last .result) inside);
     }
