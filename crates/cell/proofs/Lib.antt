@@ -4,3 +4,7 @@ pub mod Striking
 pub mod Entries
 pub mod Withdrawals
 pub mod EditSteps
+pub mod Gathering
+pub mod ForceFits
+pub mod Trying
+pub mod Tables

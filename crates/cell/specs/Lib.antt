@@ -3,3 +3,5 @@ pub mod Book
 pub mod Calls
 pub mod Memory
 pub mod Edits
+pub mod Force
+pub mod Trial

@@ -8,8 +8,10 @@ ghost use Rattle.cell.specs.Book.{used, sound};
 use crate::record::Record;
 
 pub mod entering;
+mod gathering;
 pub mod making;
 pub mod reading;
+pub mod trying;
 pub mod withdrawing;
 
 #[derive(Drop)]

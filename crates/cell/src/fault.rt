@@ -2,6 +2,7 @@
 ghost use mathlib.Core.Path.{_≡_};
 ghost use Rattle.cell.specs.Fault.{marks-fault-number, entry-fault-number, withdrawal-fault-number};
 ghost use Rattle.cell.specs.declared.fault.EntryFault.the-variants.{Unfit};
+ghost use Rattle.cell.specs.declared.fault.TrialFault.the-variants.{BadSource};
 use rules::fault::RuleFault;
 use rules::fault::RuleFaultDebug;
 use rules::fault::RuleFaultDisplay;
@@ -76,6 +77,32 @@ impl WithdrawalFault {
             WithdrawalFault::NoTag => 2,
             WithdrawalFault::TagNotInForce => 8,
         }
+    }
+}
+
+#[derive(Clone, Copy, PartialEq, Eq, Debug)]
+pub enum SourceFault {
+    // The source has more than 8,192 places.
+    TooManyPlaces,
+    // The rule at a place does not fit the cell.
+    UnfitPlace(usize, RuleFault),
+}
+
+#[derive(Clone, Copy, PartialEq, Eq, Debug)]
+pub enum TrialFault {
+    // The source is refused.
+    BadSource(SourceFault),
+    // The row has fewer entries than the cell has marks.
+    ShortRow,
+    // Mark 0 does not lie at zero, or a mark lies too far.
+    BadMark(usize),
+}
+
+pub impl From<SourceFault> for TrialFault as SourceInTrial {
+    ghost converts = { λ f r. r ≡ BadSource f };
+
+    fn from(fault: SourceFault) -> TrialFault {
+        TrialFault::BadSource(fault)
     }
 }
 

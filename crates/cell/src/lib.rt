@@ -2,5 +2,7 @@
 pub mod cell;
 pub mod editing;
 pub mod fault;
+mod force;
 pub mod memory;
 pub mod record;
+mod row;

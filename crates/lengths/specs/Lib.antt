@@ -1,3 +1,4 @@
 pub mod Kind
 pub mod Grid
 pub mod Strict
+pub mod Stored

@@ -1,0 +1,4 @@
+pub mod Rows
+pub mod Paths
+pub mod Listed
+pub mod Trial
