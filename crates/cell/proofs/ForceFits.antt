@@ -1,15 +1,17 @@
 -- The rules in force fit the cell, and have numbers above 0.
 use mathlib.Core.Path.{_≡_, refl, sym, ap, _∙_}
-use mathlib.Core.Bool.{Bool, true, false, cond}
+use mathlib.Core.Bool.{Bool, true, false, cond, _&&_}
 use mathlib.Core.List.{List, [], _∷_, _++_}
 use Prim.Native.Nat.{ℕ, zero, suc, _+_, _-_, _≤_, _<_}
 use native.Mathlib.Omega.{arith}
+use lib.Dec.{leb}
 use lib.ListN.{length, getD}
 use Rattle.std.specs.Iters.{counting}
 use Rattle.std.specs.Results.{isOk}
 use Rattle.std.specs.shelf.Lists.{All}
-use Rattle.std.proofs.shelf.Elements.{all-append, all-map, all-weaker}
-use Rattle.std.proofs.shelf.Tests.{cases-bool, cond-false, ltb-false, and-from}
+use Rattle.std.proofs.shelf.Elements.{all-append, all-map, all-weaker, has-append-left}
+use Rattle.std.proofs.shelf.Counted.{getD-map-counting, length-map-counting}
+use Rattle.std.proofs.shelf.Tests.{and-from, le-leb}
 use Rattle.std.specs.declared.option.Option.{Option}
 use Rattle.std.specs.declared.option.Option.the-variants.{None, Some}
 use Rattle.std.specs.declared.result.Result.{Result}
@@ -17,6 +19,9 @@ use Rattle.std.specs.declared.result.Result.the-variants.{Ok, Err}
 use Rattle.lengths.specs.Kind.{Kind, Laws}
 use Rattle.rules.specs.Rule.{minimum, rule-check}
 use Rattle.rules.specs.declared.rule.Rule.{Rule}
+use Rattle.graph.proofs.Membership.{has-map}
+use Rattle.graph.specs.Packing.{Bordered}
+use Rattle.graph.specs.Ready.{all-fit, sound}
 use Rattle.graph.specs.Trial.{marks-below}
 use Rattle.graph.specs.declared.numbered.Numbered.{Numbered}
 use Rattle.cell.specs.Force.{book-rules, boundary-rule, boundary-rules, in-force, place-rules, places-check, source-check}
@@ -95,3 +100,24 @@ module _ {L : Type 0} (k : Kind L) (n : ℕ) where
       (all-map (λ q. 0 < q .number) (boundary-rule k n) (counting 1 (n - 1)) (all-weaker (λ m. (1 ≤ m) × (m < 1 + (n - 1))) (λ m. 0 < 70_000 + m) (λ m h. omega arith) (counting 1 (n - 1)) (all-counting 1 (n - 1))))
       (book-positive book tagged))
       (places-positive 0 places)
+
+  fit-all : (rules : List (Numbered L)) → All Fit rules → all-fit k n rules ≡ true
+  fit-all [] all = refl
+  fit-all (q ∷ rules) all = and-from (isOk (rule-check k n (q .rule))) (all-fit k n rules) (all .0) (fit-all rules (all .1))
+
+  -- the rules in force are sound
+  pub force-sound : Laws k → 1 ≤ n → n ≤ 256 → (book : List (Record L)) (places : List (Option (Rule L))) → source-check k n places ≡ Ok tt → length (in-force k n book places) ≤ 12543 →
+      sound k n (in-force k n book places) ≡ true
+  force-sound laws some few book places ok counted =
+      let rules = in-force k n book places in
+      and-from (leb 1 n) (leb n 256 && (leb (length rules) 12543 && all-fit k n rules)) (le-leb 1 n some)
+      (and-from (leb n 256) (leb (length rules) 12543 && all-fit k n rules) (le-leb n 256 few)
+      (and-from (leb (length rules) 12543) (all-fit k n rules) (le-leb (length rules) 12543 counted) (fit-all rules (force-fits laws some book places ok))))
+
+  -- every mark from 1 up has its boundary rule among them
+  pub force-bordered : (book : List (Record L)) (places : List (Option (Rule L))) → Bordered k n (in-force k n book places)
+  force-bordered book places m h l =
+      has-map (λ (q : Numbered L). q .rule) (in-force k n book places) (boundary-rule k n m)
+      (has-append-left (boundary-rules k n ++ book-rules k n book) (place-rules k n 0 places) (boundary-rule k n m)
+      (has-append-left (boundary-rules k n) (book-rules k n book) (boundary-rule k n m)
+      (m - 1, omega (arith, length-map-counting (boundary-rule k n) 1 (n - 1)), λ d. getD-map-counting (boundary-rule k n) 1 (n - 1) (m - 1) m d (omega arith) (omega arith))))

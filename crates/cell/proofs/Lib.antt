@@ -8,3 +8,4 @@ pub mod Gathering
 pub mod ForceFits
 pub mod Trying
 pub mod Tables
+pub mod Compactions

@@ -5,3 +5,4 @@ pub mod Memory
 pub mod Edits
 pub mod Force
 pub mod Trial
+pub mod Compaction

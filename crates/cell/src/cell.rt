@@ -7,6 +7,7 @@ ghost use denote.Ref.{now as held};
 ghost use Rattle.cell.specs.Book.{used, sound};
 use crate::record::Record;
 
+pub mod compacting;
 pub mod entering;
 mod gathering;
 pub mod making;

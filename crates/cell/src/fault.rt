@@ -2,6 +2,7 @@
 ghost use mathlib.Core.Path.{_≡_};
 ghost use Rattle.cell.specs.Fault.{marks-fault-number, entry-fault-number, withdrawal-fault-number};
 ghost use Rattle.cell.specs.declared.fault.EntryFault.the-variants.{Unfit};
+ghost use Rattle.cell.specs.declared.fault.CompactionFault.the-variants as compaction;
 ghost use Rattle.cell.specs.declared.fault.TrialFault.the-variants.{BadSource};
 use rules::fault::RuleFault;
 use rules::fault::RuleFaultDebug;
@@ -103,6 +104,26 @@ pub impl From<SourceFault> for TrialFault as SourceInTrial {
 
     fn from(fault: SourceFault) -> TrialFault {
         TrialFault::BadSource(fault)
+    }
+}
+
+#[derive(Clone, Copy, PartialEq, Eq, Debug)]
+pub enum CompactionFault {
+    // The source is refused.
+    BadSource(SourceFault),
+    // The row has fewer entries than the cell has marks.
+    ShortRow,
+    // The cycle list has fewer entries than the cell has marks.
+    ShortList,
+    // The rules in force have a positive cycle, shown by so many numbers.
+    OverConstrained(usize),
+}
+
+pub impl From<SourceFault> for CompactionFault as SourceInCompaction {
+    ghost converts = { λ f r. r ≡ compaction.BadSource f };
+
+    fn from(fault: SourceFault) -> CompactionFault {
+        CompactionFault::BadSource(fault)
     }
 }
 

@@ -1,3 +1,9 @@
-// The constraint graph: rules between marks as a flat list of numbered rules, and what is asked of it.
+// The constraint graph: trials of rows, positions by rounds of raises, and cycles.
+mod chain;
+pub mod cycle;
 pub mod numbered;
+pub mod packing;
+pub mod positions;
+pub mod ready;
+mod rounds;
 pub mod trial;

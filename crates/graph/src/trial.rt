@@ -42,6 +42,16 @@ fn breaks<L: Length>(row: &[L], rule: Rule<L>) -> bool
     !start.sum(rule.gap).at_most(end)
 }
 
+// The smaller of a number and the smallest so far, if there is one.
+fn smaller(smallest: Option<u32>, number: u32) -> u32
+    ensures { λ r. ⌜ r ≡ Rattle.graph.specs.Trial.least smallest number ⌝ }
+{
+    match smallest {
+        None => number,
+        Some(least) => least.min(number),
+    }
+}
+
 // Some(0) where the row keeps every rule, else the smallest number of a broken one.
 // None where the rules cannot be tried: a mark not below `marks`, or a row shorter than that.
 pub fn trial<L: Length>(marks: usize, rules: &[Numbered<L>], row: &[L]) -> Option<u32>
@@ -61,14 +71,4 @@ pub fn trial<L: Length>(marks: usize, rules: &[Numbered<L>], row: &[L]) -> Optio
         }
     }
     Some(smallest.unwrap_or(0))
-}
-
-// The smaller of a number and the smallest so far, if there is one.
-fn smaller(smallest: Option<u32>, number: u32) -> u32
-    ensures { λ r. ⌜ r ≡ Rattle.graph.specs.Trial.least smallest number ⌝ }
-{
-    match smallest {
-        None => number,
-        Some(least) => least.min(number),
-    }
 }
