@@ -6,4 +6,6 @@ mod cell_tests;
 #[cfg(test)]
 mod length_tests;
 #[cfg(test)]
+mod pack_tests;
+#[cfg(test)]
 mod source_tests;

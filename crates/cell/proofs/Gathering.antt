@@ -86,22 +86,24 @@ module _ {L : Type 0} (k : Kind L) (n : ℕ) where
       places-check k n 0 (take i places) ≡ Ok tt → now′ ≡ front ++ place-rules k n 0 (take i places) →
       (places-check k n 0 (take (i + 1) places) ≡ Ok tt) × (now′ ≡ front ++ place-rules k n 0 (take (i + 1) places))
   place-empty places i front now′ h told fits e =
-      let next : take (i + 1) places ≡ take i places ++ None ∷ [] = place-more places i h ∙ ap (λ o. take i places ++ o ∷ []) told in
-      (ap (places-check k n 0) next ∙ checked-append 0 (take i places) (None ∷ []) fits,
-      e ∙ ap (λ rules. front ++ rules) (sym (ap (place-rules k n 0) next ∙ place-rules-append 0 (take i places) (None ∷ []) ∙ append-nil (place-rules k n 0 (take i places)))))
+      let next : take (i + 1) places ≡ take i places ++ None ∷ [] = place-more places i h ∙ ap (λ o. take i places ++ o ∷ []) told in (
+        ap (places-check k n 0) next ∙ checked-append 0 (take i places) (None ∷ []) fits,
+        e ∙ ap (λ rules. front ++ rules) (sym (ap (place-rules k n 0) next ∙ place-rules-append 0 (take i places) (None ∷ []) ∙ append-nil (place-rules k n 0 (take i places)))),
+      )
 
   pub place-told : (places : List (Option (Rule L))) (i : ℕ) (r : Rule L) (front now′ : List (Numbered L)) → i < length places → getD places i None ≡ Some r → rule-check k n r ≡ Ok tt →
       places-check k n 0 (take i places) ≡ Ok tt → now′ ≡ front ++ place-rules k n 0 (take i places) →
       (places-check k n 0 (take (i + 1) places) ≡ Ok tt) × (now′ ++ record { number = 100_000 + i; rule = r } ∷ [] ≡ front ++ place-rules k n 0 (take (i + 1) places))
   place-told places i r front now′ h told good fits e =
       let next : take (i + 1) places ≡ take i places ++ Some r ∷ [] = place-more places i h ∙ ap (λ o. take i places ++ o ∷ []) told in
-      let long : 0 + length (take i places) ≡ i = omega (arith, length-take i places) in
-      (ap (places-check k n 0) next ∙ checked-append 0 (take i places) (Some r ∷ []) fits ∙ ap (λ a. unfit-place k n (0 + length (take i places)) a (Ok tt)) good,
-      ap (λ rules. rules ++ record { number = 100_000 + i; rule = r } ∷ []) e
-      ∙ append-assoc front (place-rules k n 0 (take i places)) (record { number = 100_000 + i; rule = r } ∷ [])
-      ∙ ap (λ rules. front ++ rules)
-      (sym (ap (place-rules k n 0) next ∙ place-rules-append 0 (take i places) (Some r ∷ [])
-      ∙ ap (λ q. place-rules k n 0 (take i places) ++ record { number = 100_000 + q; rule = r } ∷ []) long)))
+      let long : 0 + length (take i places) ≡ i = omega (arith, length-take i places) in (
+        ap (places-check k n 0) next ∙ checked-append 0 (take i places) (Some r ∷ []) fits ∙ ap (λ a. unfit-place k n (0 + length (take i places)) a (Ok tt)) good,
+        ap (λ rules. rules ++ record { number = 100_000 + i; rule = r } ∷ []) e
+            ∙ append-assoc front (place-rules k n 0 (take i places)) (record { number = 100_000 + i; rule = r } ∷ [])
+            ∙ ap (λ rules. front ++ rules)
+            (sym (ap (place-rules k n 0) next ∙ place-rules-append 0 (take i places) (Some r ∷ [])
+            ∙ ap (λ q. place-rules k n 0 (take i places) ++ record { number = 100_000 + q; rule = r } ∷ []) long)),
+      )
 
   pub place-unfit : (places : List (Option (Rule L))) (i : ℕ) (r : Rule L) (cause : RuleFault) → i < length places → getD places i None ≡ Some r → rule-check k n r ≡ Err cause →
       places-check k n 0 (take i places) ≡ Ok tt → places-check k n 0 places ≡ Err (UnfitPlace i cause)

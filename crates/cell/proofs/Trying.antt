@@ -76,6 +76,7 @@ module _ {L : Type 0} (k : Kind L) where
             ap (may-lie k m) (sym (getD-take n row m (k .zero) l))
             ∙ ap (λ j. may-lie k j (getD (take n row) m (k .zero))) (sym (zero-add m))
             ∙ good-from 0 (take n row) none m (k .zero) (omega (arith, length-take n row))
+
         near : (m : ℕ) → m < n → k .measure (position k row m) ≤ row-limit
         near zero l = omega (arith, ap (k .measure) (zero-from (position k row 0) (good 0 some)), laws .measure-zero)
         near (suc m) l =
@@ -119,5 +120,6 @@ module _ {L : Type 0} (k : Kind L) where
       where
         inside : (a b : ℕ) → _≡_ {A = Option ℕ} (Some a) (Some b) → a ≡ b
         inside a b e = cc
+
         same : (a b : ℕ) → _≡_ {A = Result ℕ TrialFault} (Ok a) (Ok b) → a ≡ b
         same a b e = cc

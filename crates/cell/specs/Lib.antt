@@ -6,3 +6,4 @@ pub mod Edits
 pub mod Force
 pub mod Trial
 pub mod Compaction
+pub mod Refusal

@@ -49,7 +49,13 @@ pub(crate) fn gather_boundary<L: Length>(marks: usize, flat: &mut [Numbered<L>])
 }
 
 // Writes the rules of the first `filled` records behind the first `start`.
-pub(crate) fn gather_book<L: Length>(marks: usize, records: &[Record<L>], filled: usize, start: usize, flat: &mut [Numbered<L>]) -> usize
+pub(crate) fn gather_book<L: Length>(
+    marks: usize,
+    records: &[Record<L>],
+    filled: usize,
+    start: usize,
+    flat: &mut [Numbered<L>],
+) -> usize
     requires { ⌜ filled ≤ length (now records) ⌝ }
     requires { ⌜ start + filled ≤ length (now flat) ⌝ }
     ensures count { λ r. ⌜ r ≤ start + filled ⌝ }
@@ -68,7 +74,13 @@ pub(crate) fn gather_book<L: Length>(marks: usize, records: &[Record<L>], filled
 }
 
 // Writes the rules of a source behind the first `start`; the first unfit place is refused.
-pub(crate) fn gather_source<L: Length, S: Source<L>>(marks: usize, source: &S, places: usize, start: usize, flat: &mut [Numbered<L>]) -> Result<usize, SourceFault>
+pub(crate) fn gather_source<L: Length, S: Source<L>>(
+    marks: usize,
+    source: &S,
+    places: usize,
+    start: usize,
+    flat: &mut [Numbered<L>],
+) -> Result<usize, SourceFault>
     requires { ⌜ (places ≡ length (S·Source .listing (now source))) × (places ≤ 8192) ⌝ }
     requires { ⌜ start + places ≤ length (now flat) ⌝ }
     ensures { λ r. ⌜ GathersSource kind marks (S·Source .listing (now (source .entry))) start (now (flat .entry)) r (now (flat .exit)) ⌝ }

@@ -5,4 +5,5 @@ pub mod fault;
 mod force;
 pub mod memory;
 pub mod record;
+pub mod refusal;
 mod row;

@@ -58,9 +58,11 @@ module _ {L : Type 0} (k : Kind L) (laws : Laws k) where
   packs-from n rules row zeros ok l is Unready row′ p = absurd (true≢false (sym (ready-zeros n rules row zeros ok l is) ∙ p .0))
   packs-from n rules row zeros ok l is Settled row′ p =
       (and-from (sound k n rules) (leb n (length row)) ok (le-leb n (length row) l), subst (λ (ys : List L). Settles k n rules ys row′) is (p .1), p .2)
-  packs-from n rules row zeros ok l is OverConstrained row′ p =
-      (and-from (sound k n rules) (leb n (length row)) ok (le-leb n (length row) l), p .1,
-      p .2 ∙ cleared-same k n zeros row (ap (drop n) is ∙ drop-cleared k n row))
+  packs-from n rules row zeros ok l is OverConstrained row′ p = (
+    and-from (sound k n rules) (leb n (length row)) ok (le-leb n (length row) l),
+    p .1,
+    p .2 ∙ cleared-same k n zeros row (ap (drop n) is ∙ drop-cleared k n row),
+  )
 
   module _ (n : ℕ) (rules : List (Numbered L)) (before row : List L) (some : 1 ≤ n) (setting : Setting k n rules (cleared k n before))
       (settles : Settles k n rules (cleared k n before) row) (bordered : Bordered k n rules) where
@@ -86,8 +88,10 @@ module _ {L : Type 0} (k : Kind L) (laws : Laws k) where
       where
         r : Reached k n (plain rules) (cleared k n before) most-raises m (position k row m)
         r = settles .reached m l
+
         from-start : position k row m ≡ k .sum (k .zero) (path-length k (r .walk))
         from-start = r .is ∙ ap (λ x. k .sum x (path-length k (r .walk))) (position-cleared k n before (r .origin) (r .origin-below))
+
         behind : 0 < r .origin → From-zero m
         behind h = record {
           walk = minimum 0 (r .origin) (k .zero) ∷ r .walk;
@@ -96,6 +100,7 @@ module _ {L : Type 0} (k : Kind L) (laws : Laws k) where
           leads = (refl, r .leads);
           is = from-start;
         }
+
         at-zero : r .origin ≤ 0 → From-zero m
         at-zero h =
             let a = measure-path-length k laws gap-limit (r .walk) (all-drawn (GapAtMost k gap-limit) (plain rules) (r .walk) (r .drawn) small) (omega (arith, r .short)) in
@@ -124,7 +129,7 @@ module _ {L : Type 0} (k : Kind L) (laws : Laws k) where
         let a = near m l in
         let b = ap (k .measure) (f .is) in
         let tight : position k row m ≡ k .sum (position k row 0) (path-length k (f .walk)) =
-            f .is ∙ sym (unit-left k laws (path-length k (f .walk)) (omega arith)) ∙ ap (λ x. k .sum x (path-length k (f .walk))) (sym border) in
+        f .is ∙ sym (unit-left k laws (path-length k (f .walk)) (omega arith)) ∙ ap (λ x. k .sum x (path-length k (f .walk))) (sym border) in
         subst (λ (x : L). Longest k n (plain rules) 0 m x) (sym (f .is))
         (tight-longest k laws n gap-limit (plain rules) marks small row near (settles .keeps) (f .walk) 0 m (omega arith) (omega (arith, setting .few-marks)) (f .drawn) (f .short) (f .leads) tight)
 
@@ -135,11 +140,13 @@ module _ {L : Type 0} (k : Kind L) (laws : Laws k) where
       where
         z : k .measure (k .zero) ≡ 0
         z = laws .measure-zero
+
         kept : 0 < m → k .at-most (k .zero) (position k other m) ≡ true
         kept h =
             subst (λ (x : L). k .at-most x (position k other m) ≡ true)
             (ap (λ x. k .sum x (k .zero)) (p .is-row .border) ∙ laws .unit (k .zero) (omega (arith, z)))
             (all-has (Keeps k other) (plain rules) (minimum 0 m (k .zero)) (p .keeps) (bordered m h l))
+
         itself : m ≤ 0 → k .at-most (k .zero) (position k other m) ≡ true
         itself h =
             subst (λ (x : L). k .at-most (k .zero) x ≡ true) (sym (p .is-row .border) ∙ ap (position k other) (sym (zero-from m h))) (reflexive k laws (k .zero) (omega (arith, z)))
@@ -164,7 +171,7 @@ module _ {L : Type 0} (k : Kind L) (laws : Laws k) where
       let small = gaps-small k n rules (cleared k n before) setting in
       let marks = marks-below-all k n rules (cleared k n before) setting in
       let none : (other : List L) → Row k n other → All (Keeps k other) (plain (shown .cycle)) → ⊥ =
-          positive-cycle-no-row n (plain rules) marks k laws gap-limit small (omega (arith, setting .few-marks)) (shown .mark) (plain (shown .cycle)) (shown .shows .positive) in
+      positive-cycle-no-row n (plain rules) marks k laws gap-limit small (omega (arith, setting .few-marks)) (shown .mark) (plain (shown .cycle)) (shown .shows .positive) in
       record {
         shown = shown;
         unkept = none;

@@ -9,7 +9,7 @@ use lengths::grid::GridLength;
 use rules::rule::Rule;
 use std::error::AnyError;
 
-fn steps(steps: i64) -> Grid {
+pub(crate) fn steps(steps: i64) -> Grid {
     Grid { steps }
 }
 
@@ -51,11 +51,15 @@ fn rules() -> [Record<Grid>; 8] {
     ]
 }
 
-fn enter(rt: &LibcRuntime, cell: &mut Cell<'_, Grid>, entry: Record<Grid>) -> Result<(), AnyError> {
-    let tag = entry.tag;
-    let (from, to, gap) = (entry.rule.from, entry.rule.to, entry.rule.gap.steps);
+pub(crate) fn enter(
+    rt: &LibcRuntime,
+    cell: &mut Cell<'_, Grid>,
+    tag: u16,
+    rule: Rule<Grid>,
+) -> Result<(), AnyError> {
+    let (from, to, gap) = (rule.from, rule.to, rule.gap.steps);
     print!(rt, "enter {tag}: {to} at least {gap} beyond {from}: ")?;
-    match cell.enter(tag, entry.rule) {
+    match cell.enter(tag, rule) {
         Ok(()) => println!(rt, "ok")?,
         Err(fault) => {
             let number = fault.number();
@@ -65,7 +69,11 @@ fn enter(rt: &LibcRuntime, cell: &mut Cell<'_, Grid>, entry: Record<Grid>) -> Re
     Ok(())
 }
 
-fn withdraw(rt: &LibcRuntime, cell: &mut Cell<'_, Grid>, tag: u16) -> Result<(), AnyError> {
+pub(crate) fn withdraw(
+    rt: &LibcRuntime,
+    cell: &mut Cell<'_, Grid>,
+    tag: u16,
+) -> Result<(), AnyError> {
     print!(rt, "withdraw {tag}: ")?;
     match cell.withdraw(tag) {
         Ok(()) => println!(rt, "ok")?,
@@ -88,52 +96,26 @@ fn look_up(rt: &LibcRuntime, cell: &Cell<'_, Grid>, tag: u16) -> Result<(), AnyE
     Ok(())
 }
 
-pub(crate) fn edit_rules(rt: &LibcRuntime) -> Result<(), AnyError> {
-    let blank = Record {
+// What fills the records before a rule is entered.
+pub(crate) fn blank() -> Record<Grid> {
+    Record {
         tag: 0,
         rule: Rule::minimum(0, 0, steps(0)),
-    };
-    let mut records = [blank; 8];
-    let mut cell = Cell::new(MARKS, &mut records);
+    }
+}
+
+pub(crate) fn edit_rules(rt: &LibcRuntime, cell: &mut Cell<'_, Grid>) -> Result<(), AnyError> {
     println!(rt)?;
     println!(rt, "The designer's rules, in a memory of 8 records:")?;
     for entry in rules() {
-        enter(rt, &mut cell, entry)?;
+        enter(rt, cell, entry.tag, entry.rule)?;
     }
-    look_up(rt, &cell, 3)?;
-    enter(
-        rt,
-        &mut cell,
-        Record {
-            tag: 3,
-            rule: Rule::minimum(0, 1, steps(0)),
-        },
-    )?;
-    enter(
-        rt,
-        &mut cell,
-        Record {
-            tag: 9,
-            rule: Rule::minimum(0, 13, steps(0)),
-        },
-    )?;
-    enter(
-        rt,
-        &mut cell,
-        Record {
-            tag: 9,
-            rule: Rule::minimum(2, 12, steps(0)),
-        },
-    )?;
-    withdraw(rt, &mut cell, 8)?;
-    enter(
-        rt,
-        &mut cell,
-        Record {
-            tag: 9,
-            rule: Rule::minimum(2, 12, steps(0)),
-        },
-    )?;
-    withdraw(rt, &mut cell, 8)?;
-    look_up(rt, &cell, 8)
+    look_up(rt, cell, 3)?;
+    enter(rt, cell, 3, Rule::minimum(0, 1, steps(0)))?;
+    enter(rt, cell, 9, Rule::minimum(0, 13, steps(0)))?;
+    enter(rt, cell, 9, Rule::minimum(12, 2, steps(0)))?;
+    withdraw(rt, cell, 8)?;
+    enter(rt, cell, 9, Rule::minimum(12, 2, steps(0)))?;
+    withdraw(rt, cell, 8)?;
+    look_up(rt, cell, 8)
 }

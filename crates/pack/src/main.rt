@@ -1,12 +1,18 @@
 // Packs the cell of a small inverter and prints the work.
 mod designer;
+mod drawing;
 mod inverter;
+mod packing;
 mod report;
 
 use boxes::source::BoxPlaces;
 use boxes::source::BoxSource;
+use cell::cell::Cell;
+use designer::blank;
 use designer::edit_rules;
+use inverter::MARKS;
 use inverter::figures;
+use packing::pack_cell;
 use report::make_boxes;
 use report::print_boxes;
 use report::print_rules;
@@ -21,7 +27,10 @@ fn run(rt: &LibcRuntime) -> Result<(), AnyError> {
     print_boxes(rt, &made)?;
     let source = BoxSource::from_boxes(FACTOR, &made);
     print_rules(rt, &source)?;
-    edit_rules(rt)
+    let mut records = [blank(); 8];
+    let mut cell = Cell::new(MARKS, &mut records);
+    edit_rules(rt, &mut cell)?;
+    pack_cell(rt, &mut cell, &source, &made)
 }
 
 fn main(rt: LibcRuntime) -> Result<(), AnyError> {

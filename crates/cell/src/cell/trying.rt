@@ -17,12 +17,7 @@ use lengths::stored::Stored;
 use rules::source::Source;
 
 // The trial of the first `count` rules.
-fn try_first<L: Length>(
-    marks: usize,
-    flat: &[Numbered<L>],
-    count: usize,
-    row: &[L],
-) -> Option<u32>
+fn try_first<L: Length>(marks: usize, flat: &[Numbered<L>], count: usize, row: &[L]) -> Option<u32>
     requires { ⌜ count ≤ length (now flat) ⌝ }
     ensures { λ r. ⌜ Tried kind marks (take count (now (flat .entry))) (now (row .entry)) r ⌝ }
 {

@@ -17,15 +17,15 @@ loop-i-again g c =
     let front = take (c .args .start) (c .args .flat .now) in
     let tested = ap isOk (sym (c .check .ensures)) ∙ sym (c .is-ok .ensures .value) in
     elim (c .if-is-ok .came) [
-      then-is-ok w ↦ (
+      | then-is-ok w ↦ (
         omega (arith, w .count-is, w .push-count .ensures .count),
         ap₂ take (w .count-is) (w .flat-is) ∙ w .push-count .ensures .rules
-        ∙ ap (λ m. take (c .loop-i .count) (c .loop-i .flat) ++ record { number = m; rule = x .rule } ∷ []) (w .from-number .ensures)
-        ∙ book-kept k (c .args .marks) records i x front (take (c .loop-i .count) (c .loop-i .flat)) (omega arith) (c .index-records-i .is) (tested ∙ w .if-is-ok .taken) (c .loop-i .inv .1)
+            ∙ ap (λ m. take (c .loop-i .count) (c .loop-i .flat) ++ record { number = m; rule = x .rule } ∷ []) (w .from-number .ensures)
+            ∙ book-kept k (c .args .marks) records i x front (take (c .loop-i .count) (c .loop-i .flat)) (omega arith) (c .index-records-i .is) (tested ∙ w .if-is-ok .taken) (c .loop-i .inv .1),
       )
-    | else-is-ok w ↦ (
+      | else-is-ok w ↦ (
         omega (arith, w .count-is),
         ap₂ take (w .count-is) (w .flat-is)
-        ∙ book-passed k (c .args .marks) records i x front (take (c .loop-i .count) (c .loop-i .flat)) (omega arith) (c .index-records-i .is) (tested ∙ w .if-is-ok .left) (c .loop-i .inv .1)
+            ∙ book-passed k (c .args .marks) records i x front (take (c .loop-i .count) (c .loop-i .flat)) (omega arith) (c .index-records-i .is) (tested ∙ w .if-is-ok .left) (c .loop-i .inv .1),
       )
     ]

@@ -18,9 +18,10 @@ loop-mark-again g c =
     let count = c .loop-mark .count in
     let made = c .push-count .ensures in
     let told = boundary-rule k (c .args .marks) in
-    let rule = c .minimum-rule .ensures ∙ ap (minimum 0 m) (c .zero .ensures) in
-    (omega (arith, made .count),
-    made .rules
-    ∙ ap₂ (λ (xs : List (Numbered _)) (r : Rule _). xs ++ record { number = 70_000 + m; rule = r } ∷ []) (c .loop-mark .inv .1) rule
-    ∙ sym (map-counting-more told 1 count m (omega arith))
-    ∙ ap (λ j. map told (counting 1 j)) (sym (made .count)))
+    let rule = c .minimum-rule .ensures ∙ ap (minimum 0 m) (c .zero .ensures) in (
+      omega (arith, made .count),
+      made .rules
+          ∙ ap₂ (λ (xs : List (Numbered _)) (r : Rule _). xs ++ record { number = 70_000 + m; rule = r } ∷ []) (c .loop-mark .inv .1) rule
+          ∙ sym (map-counting-more told 1 count m (omega arith))
+          ∙ ap (λ j. map told (counting 1 j)) (sym (made .count)),
+    )

@@ -17,12 +17,12 @@ loop-place-again g c =
     let front = take (c .args .start) (c .args .flat .now) in
     let gathered = take (c .loop-place .count) (c .loop-place .flat) in
     elim (c .match-rule .came) [
-      in-None w ↦ (
-        let p = place-empty k (c .args .marks) places i front gathered (omega arith) (sym (w .in-None .ensures tt)) (inv .1) (inv .2) in
-        (omega (arith, w .count-is), p .0, ap₂ take (w .count-is) (w .flat-is) ∙ p .1))
-    | in-Some·in-Ok w ↦ (
-        let p = place-told k (c .args .marks) places i (w .in-Some .rule) front gathered (omega arith) (sym (w .in-Some .ensures tt)) (sym (w .in-Ok .ensures tt)) (inv .1) (inv .2) in
-        (omega (arith, w .count-is, w .push-count .ensures .count), p .0, ap₂ take (w .count-is) (w .flat-is) ∙ w .push-count .ensures .rules ∙ p .1))
+      | in-None w ↦ (
+          let p = place-empty k (c .args .marks) places i front gathered (omega arith) (sym (w .in-None .ensures tt)) (inv .1) (inv .2) in
+          (omega (arith, w .count-is), p .0, ap₂ take (w .count-is) (w .flat-is) ∙ p .1))
+      | in-Some·in-Ok w ↦ (
+          let p = place-told k (c .args .marks) places i (w .in-Some .rule) front gathered (omega arith) (sym (w .in-Some .ensures tt)) (sym (w .in-Ok .ensures tt)) (inv .1) (inv .2) in
+          (omega (arith, w .count-is, w .push-count .ensures .count), p .0, ap₂ take (w .count-is) (w .flat-is) ∙ w .push-count .ensures .rules ∙ p .1))
     ]
 
 pub returns-in-Err : need.returns-in-Err

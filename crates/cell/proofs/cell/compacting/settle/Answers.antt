@@ -13,10 +13,11 @@ use Rattle.cell.proofs.cell.compacting.settle.Needs as need
 pub returns-in-Settled : need.returns-in-Settled
 returns-in-Settled g c =
     let k = g .L·Length .kind in
-    let flat = c .args .flat .now in
-    (settled k (g .L·Length·met .laws) (c .args .marks) (take (c .args .count) flat) (c .args .row .now) (c .pack .last .row) (c .pre .sound) (c .pre .room .0) (c .pre .bordered)
-    (subst (λ (m : ℕ). PacksFrom k (c .args .marks) (take m flat) (c .args .row .now) Settled (c .pack .last .row)) (sub-zero (c .args .count)) (c .in-Settled .ensures tt)),
-    refl)
+    let flat = c .args .flat .now in (
+      settled k (g .L·Length·met .laws) (c .args .marks) (take (c .args .count) flat) (c .args .row .now) (c .pack .last .row) (c .pre .sound) (c .pre .room .0) (c .pre .bordered)
+          (subst (λ (m : ℕ). PacksFrom k (c .args .marks) (take m flat) (c .args .row .now) Settled (c .pack .last .row)) (sub-zero (c .args .count)) (c .in-Settled .ensures tt)),
+      refl,
+    )
 
 pub returns-in-Cycle : need.returns-in-Cycle
 returns-in-Cycle g c =
