@@ -29,11 +29,14 @@ module _ {L : Type 0} (k : Kind L) (n : ℕ) where
   abbrev pub boundary-rules : List (Numbered L)
   boundary-rules = map boundary-rule (counting 1 (n - 1))
 
-  -- The book's rules go by their tags. An entry lets in no rule that does not fit, so these are all of them.
+  -- A rule of the book goes by its tag.
+  abbrev pub by-tag : Record L → Numbered L
+  by-tag r = record { number = r .tag; rule = r .rule }
+
+  -- The book's rules that fit. An entry lets in no other, so these are all of them.
   abbrev pub book-rules : List (Record L) → List (Numbered L)
   book-rules [] = []
-  book-rules (r ∷ book) =
-      cond (isOk (rule-check k n (r .rule))) (record { number = r .tag; rule = r .rule } ∷ book-rules book) (book-rules book)
+  book-rules (r ∷ book) = cond (isOk (rule-check k n (r .rule))) (by-tag r ∷ book-rules book) (book-rules book)
 
   -- A source's rules go by their places, counted from p on.
   abbrev pub place-rules : ℕ → List (Option (Rule L)) → List (Numbered L)

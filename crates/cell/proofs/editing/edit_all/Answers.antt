@@ -1,12 +1,14 @@
 use mathlib.Core.Path.{_≡_, refl, sym, ap, ap₂, _∙_}
-use mathlib.Core.List.{[]}
+use mathlib.Core.List.{[], map}
 use native.Mathlib.Omega.{arith}
 use lib.ListN.{length, take, drop}
 use Rattle.std.proofs.shelf.Lists.{at-drop-all}
 use Rattle.cell.specs.Book.{used}
 use Rattle.cell.specs.Calls.{cell-marks}
 use Rattle.cell.specs.Edits.{after, after-from, after-memory, after-memory-from}
+use Rattle.cell.specs.Force.{book-rules, by-tag}
 use Rattle.cell.specs.Memory.{book, memory}
+use Rattle.cell.proofs.BookFits.{all-fit-after, all-in-force}
 use Rattle.cell.proofs.EditSteps.{book-on, length-edited, memory-on}
 use Rattle.cell.proofs.Entries.{length-book}
 use Rattle.cell.proofs.editing.edit_all.Needs as need
@@ -52,11 +54,13 @@ returns g c =
     let same : back .0 ≡ memory cell = back .1 .1 (sym (c .new-cell .ensures .lent) ∙ sym (inv .0)) in
     let done = c .loop-edit-test .left in
     let passed = c .new-cell .ensures .memory-is in
+    let books =
+    ap₂ take (c .filled .ensures ∙ length-book cell) same
+    ∙ sym (at-drop-all (after-from k n (used (length (memory (c .new-cell .result)))) (book cell)) (c .args .edits .now) (c .loop-edit .edit-index) done)
+    ∙ inv .3
+    ∙ ap (λ m. after k n (used (length m)) (c .args .edits .now)) passed in
     record {
-      book =
-          ap₂ take (c .filled .ensures ∙ length-book cell) same
-          ∙ sym (at-drop-all (after-from k n (used (length (memory (c .new-cell .result)))) (book cell)) (c .args .edits .now) (c .loop-edit .edit-index) done)
-          ∙ inv .3
-          ∙ ap (λ m. after k n (used (length m)) (c .args .edits .now)) passed;
+      book = books;
+      force = ap (book-rules k n) books ∙ all-in-force k n _ (all-fit-after k n _ (c .args .edits .now)) ∙ sym (ap (map (by-tag k n)) books);
       memory = same ∙ sym (at-drop-all (after-memory-from k n (memory cell) (book cell)) (c .args .edits .now) (c .loop-edit .edit-index) done) ∙ inv .4 ∙ ap (λ m. after-memory k n m (c .args .edits .now)) passed;
     }
