@@ -70,11 +70,11 @@ module _ {L : Type 0} (k : Kind L) (laws : Laws k) (n : ℕ) (rules : List (Rule
   raised-row : List L
   raised-row = map (λ v. k .sum (raised v) (k .opposite (raised 0))) (counting 0 n)
 
-  measure-shift : k .measure shift ≤ 5_000_256_000_000
+  measure-shift : k .measure shift ≤ 5_000_512_000_000
   unfolding shift
   measure-shift = omega (arith, c .near i li, laws .measure-far)
 
-  measure-moved : (v : ℕ) → v < n → k .measure (moved v) ≤ 5_000_512_000_000
+  measure-moved : (v : ℕ) → v < n → k .measure (moved v) ≤ 5_001_024_000_000
   unfolding moved
   measure-moved v l = omega (arith, c .near v l, measure-shift)
 
@@ -93,7 +93,7 @@ module _ {L : Type 0} (k : Kind L) (laws : Laws k) (n : ℕ) (rules : List (Rule
   unfolding raised
   raised-from-path v l y e = lifted-path k laws (d i v) (moved v) y (omega (arith, measure-moved v l)) (measured v l y e) e
 
-  measure-raised : (v : ℕ) → v < n → k .measure (raised v) ≤ 5_000_512_000_000
+  measure-raised : (v : ℕ) → v < n → k .measure (raised v) ≤ 5_001_024_000_000
   measure-raised v l = ⊎-elim (λ e. rw e (measure-moved v l)) (λ s. rw (s .2) (omega (arith, measured v l (s .0) (s .1)))) (raised-cases v)
 
   -- Both parts keep each rule, and so does the larger.

@@ -27,7 +27,7 @@ distance-limit = 256_000_000_000
 
 -- The largest measure of the lengths of the row that shows the rules to be consistent.
 abbrev pub near-limit : ℕ
-near-limit = 256_000_000
+near-limit = 512_000_000
 
 -- Rules between n marks with gaps of measure at most g, kept by a row of small measures.
 pub record Consistent {L : Type 0} (k : Kind L) (n g : ℕ) (rules : List (Rule L)) : Type 0 where

@@ -29,3 +29,9 @@ pub mod Midpoints
 pub mod Tables
 pub mod ReducedTable
 pub mod PackedRows
+pub mod Beginning
+pub mod Changing
+pub mod Sourcing
+pub mod Converging
+pub mod Placing
+pub mod Measuring

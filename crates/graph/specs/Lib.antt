@@ -13,3 +13,6 @@ pub mod Outcome
 pub mod Positions
 pub mod Cycles
 pub mod Packing
+pub mod Filling
+pub mod Overs
+pub mod Distancing

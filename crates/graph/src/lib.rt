@@ -1,6 +1,9 @@
-// The constraint graph: trials of rows, positions by rounds of raises, and cycles.
+// The constraint graph: trials of rows, positions by rounds of raises, cycles, and distances.
 mod chain;
 pub mod cycle;
+pub mod distancing;
+mod filling;
+mod midpoint;
 pub mod numbered;
 pub mod packing;
 pub mod positions;
