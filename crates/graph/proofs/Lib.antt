@@ -35,3 +35,7 @@ pub mod Sourcing
 pub mod Converging
 pub mod Placing
 pub mod Measuring
+pub mod Telling
+pub mod Laying
+pub mod Pairing
+pub mod Reducing

@@ -13,7 +13,7 @@ use Rattle.lengths.specs.Kind.{Kind, Laws}
 use Rattle.rules.specs.Rule.{gap-limit}
 use Rattle.graph.specs.declared.numbered.Numbered.{Numbered}
 use Rattle.graph.specs.declared.distancing.Distancing.the-variants.{OverConstrained, Done}
-use Rattle.graph.specs.Rows.{position}
+use Rattle.graph.specs.Rows.{position, Keeps, Placement}
 use Rattle.graph.specs.Listed.{plain}
 use Rattle.graph.specs.Ready.{sound}
 use Rattle.graph.specs.Rivals.{rival-limit, SamePlacements, Smallest}
@@ -28,7 +28,9 @@ use Rattle.graph.specs.Overs.{Overs}
 use Rattle.graph.specs.Distancing.{tabled, Measured, Distanced}
 use Rattle.graph.proofs.Readiness.{sound-parts, sound-setting}
 use Rattle.graph.proofs.Clearing.{fresh-start, length-cleared, position-cleared, drop-cleared, cleared-same}
+use Rattle.graph.proofs.Cycles.{positive-cycle-no-row}
 use Rattle.graph.proofs.Ending.{settles-no-cycle}
+use Rattle.graph.proofs.Membership.{all-drawn}
 use Rattle.graph.proofs.Raising.{gaps-small, marks-below-all}
 use Rattle.graph.proofs.Distances.{Consistent, consistent-wider}
 use Rattle.graph.proofs.ReducedTable.{table-same-placements, table-smallest}
@@ -123,3 +125,14 @@ module _ {L : Type 0} (k : Kind L) (laws : Laws k) (n : ℕ) (rules : List (Numb
 
   pub done-smallest : Smallest k n (reduced-list k (table-distance k table′ n) n)
   done-smallest = table-smallest k laws n (plain rules) done-consistent table′ (done .1 .distances)
+
+-- A positive cycle leaves no placement.
+pub over-no-placement : {L : Type 0} (k : Kind L) (laws : Laws k) (n : ℕ) (rules : List (Numbered L)) (table table′ : List L) → Distanced k n rules table OverConstrained table′ →
+    (other : List L) → Placement k n (plain rules) other → ⊥
+over-no-placement k laws n rules table table′ over other p =
+    let ok = and-parts (sound k n rules) (leb (n * n) (length table)) (over .0) .0 in
+    let zeros = replicate n (k .zero) in
+    let setting = sound-setting k n rules zeros ok (omega (arith, length-replicate n (k .zero))) (λ m l. omega (arith, ap (k .measure) (getD-replicate n m (k .zero) (k .zero) l), laws .measure-zero)) in
+    let cycle = over .1 .2 in
+    positive-cycle-no-row n (plain rules) (marks-below-all k n rules zeros setting) k laws gap-limit (gaps-small k n rules zeros setting) (omega (arith, setting .few-marks)) (over .1 .0) (over .1 .1) cycle
+    other (p .is-row) (all-drawn (Keeps k other) (plain rules) (over .1 .1) (cycle .cycle .drawn) (p .keeps))

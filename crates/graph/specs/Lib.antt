@@ -16,3 +16,4 @@ pub mod Packing
 pub mod Filling
 pub mod Overs
 pub mod Distancing
+pub mod Listing
