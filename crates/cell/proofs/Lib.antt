@@ -10,3 +10,4 @@ pub mod ForceFits
 pub mod Trying
 pub mod Tables
 pub mod Compactions
+pub mod Reductions

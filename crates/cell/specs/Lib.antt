@@ -6,4 +6,5 @@ pub mod Edits
 pub mod Force
 pub mod Trial
 pub mod Compaction
+pub mod Reduction
 pub mod Refusal

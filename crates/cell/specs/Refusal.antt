@@ -3,6 +3,8 @@ use Prim.Native.Nat.{ℕ}
 use Rattle.rules.specs.Fault.{rule-fault-number}
 use Rattle.cell.specs.declared.fault.CompactionFault.{CompactionFault}
 use Rattle.cell.specs.declared.fault.CompactionFault.the-variants as compaction
+use Rattle.cell.specs.declared.fault.ReductionFault.{ReductionFault}
+use Rattle.cell.specs.declared.fault.ReductionFault.the-variants as reduction
 use Rattle.cell.specs.declared.fault.SourceFault.{SourceFault}
 use Rattle.cell.specs.declared.fault.SourceFault.the-variants.{TooManyPlaces, UnfitPlace}
 use Rattle.cell.specs.declared.fault.TrialFault.{TrialFault}
@@ -30,3 +32,10 @@ compaction-refusal (compaction.BadSource fault) = source-refusal fault
 compaction-refusal compaction.ShortRow = refusal 11 0 0
 compaction-refusal compaction.ShortList = refusal 12 0 0
 compaction-refusal (compaction.OverConstrained length) = refusal 15 length 0
+
+-- 16 tells how many rules the reduced list has.
+abbrev pub reduction-refusal : ReductionFault → Refusal
+reduction-refusal (reduction.BadSource fault) = source-refusal fault
+reduction-refusal reduction.ShortTable = refusal 13 0 0
+reduction-refusal reduction.OverConstrained = refusal 15 0 0
+reduction-refusal (reduction.ShortList count) = refusal 16 count 0

@@ -12,6 +12,7 @@ pub mod entering;
 mod gathering;
 pub mod making;
 pub mod reading;
+pub mod reducing;
 pub mod trying;
 pub mod withdrawing;
 

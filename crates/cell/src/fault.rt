@@ -3,6 +3,7 @@ ghost use mathlib.Core.Path.{_≡_};
 ghost use Rattle.cell.specs.Fault.{marks-fault-number, entry-fault-number, withdrawal-fault-number};
 ghost use Rattle.cell.specs.declared.fault.EntryFault.the-variants.{Unfit};
 ghost use Rattle.cell.specs.declared.fault.CompactionFault.the-variants as compaction;
+ghost use Rattle.cell.specs.declared.fault.ReductionFault.the-variants as reduction;
 ghost use Rattle.cell.specs.declared.fault.TrialFault.the-variants.{BadSource};
 use rules::fault::RuleFault;
 use rules::fault::RuleFaultDebug;
@@ -124,6 +125,26 @@ pub impl From<SourceFault> for CompactionFault as SourceInCompaction {
 
     fn from(fault: SourceFault) -> CompactionFault {
         CompactionFault::BadSource(fault)
+    }
+}
+
+#[derive(Clone, Copy, PartialEq, Eq, Debug)]
+pub enum ReductionFault {
+    // The source is refused.
+    BadSource(SourceFault),
+    // The table has fewer entries than there are pairs of marks.
+    ShortTable,
+    // The rules in force have a positive cycle.
+    OverConstrained,
+    // The result list has fewer entries than the so many rules of the reduced list.
+    ShortList(usize),
+}
+
+pub impl From<SourceFault> for ReductionFault as SourceInReduction {
+    ghost converts = { λ f r. r ≡ reduction.BadSource f };
+
+    fn from(fault: SourceFault) -> ReductionFault {
+        ReductionFault::BadSource(fault)
     }
 }
 

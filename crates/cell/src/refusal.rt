@@ -1,7 +1,8 @@
 // A refusal in numbers: which it is, and the values that go with it.
 ghost use mathlib.Core.Path.{_≡_};
-ghost use Rattle.cell.specs.Refusal.{source-refusal, trial-refusal, compaction-refusal};
+ghost use Rattle.cell.specs.Refusal.{source-refusal, trial-refusal, compaction-refusal, reduction-refusal};
 use crate::fault::CompactionFault;
+use crate::fault::ReductionFault;
 use crate::fault::SourceFault;
 use crate::fault::TrialFault;
 use rules::fault::RuleFaultDisplay;
@@ -80,6 +81,31 @@ impl CompactionFault {
     }
 }
 
+impl ReductionFault {
+    pub fn refusal(self) -> Refusal
+        ensures { λ r. ⌜ r ≡ reduction-refusal self ⌝ }
+    {
+        match self {
+            ReductionFault::BadSource(fault) => fault.refusal(),
+            ReductionFault::ShortTable => Refusal {
+                number: 13,
+                at: 0,
+                cause: 0,
+            },
+            ReductionFault::OverConstrained => Refusal {
+                number: 15,
+                at: 0,
+                cause: 0,
+            },
+            ReductionFault::ShortList(count) => Refusal {
+                number: 16,
+                at: count,
+                cause: 0,
+            },
+        }
+    }
+}
+
 pub impl fmt::Display for SourceFault as SourceFaultDisplay {
     fn fmt<W: fmt::Write>(&self, f: &mut fmt::Formatter<W>) -> fmt::Result {
         match self {
@@ -113,6 +139,22 @@ pub impl fmt::Display for CompactionFault as CompactionFaultDisplay {
             CompactionFault::OverConstrained(length) => write!(
                 f,
                 "over-constrained, by a cycle of {length} rules"
+            ),
+        }
+    }
+}
+
+pub impl fmt::Display for ReductionFault as ReductionFaultDisplay {
+    fn fmt<W: fmt::Write>(&self, f: &mut fmt::Formatter<W>) -> fmt::Result {
+        match self {
+            ReductionFault::BadSource(fault) => write!(f, "{fault}"),
+            ReductionFault::ShortTable => f.write_str(
+                "the table has fewer entries than there are pairs of marks",
+            ),
+            ReductionFault::OverConstrained => f.write_str("over-constrained"),
+            ReductionFault::ShortList(count) => write!(
+                f,
+                "the result list is shorter than the {count} rules of the reduced list"
             ),
         }
     }
