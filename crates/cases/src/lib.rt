@@ -8,4 +8,6 @@ mod length_tests;
 #[cfg(test)]
 mod pack_tests;
 #[cfg(test)]
+mod reduce_tests;
+#[cfg(test)]
 mod source_tests;

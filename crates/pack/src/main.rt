@@ -3,6 +3,7 @@ mod designer;
 mod drawing;
 mod inverter;
 mod packing;
+mod reducing;
 mod report;
 
 use boxes::source::BoxPlaces;
@@ -13,6 +14,7 @@ use designer::edit_rules;
 use inverter::MARKS;
 use inverter::figures;
 use packing::pack_cell;
+use reducing::reduce_cell;
 use report::make_boxes;
 use report::print_boxes;
 use report::print_rules;
@@ -30,7 +32,8 @@ fn run(rt: &LibcRuntime) -> Result<(), AnyError> {
     let mut records = [blank(); 8];
     let mut cell = Cell::new(MARKS, &mut records);
     edit_rules(rt, &mut cell)?;
-    pack_cell(rt, &mut cell, &source, &made)
+    let row = pack_cell(rt, &mut cell, &source, &made)?;
+    reduce_cell(rt, &cell, &source, &row)
 }
 
 fn main(rt: LibcRuntime) -> Result<(), AnyError> {

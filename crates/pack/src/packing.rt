@@ -37,10 +37,10 @@ fn old_row() -> [Grid; MARKS] {
     ]
 }
 
-fn try_row(
+pub(crate) fn try_row<S: Source<Grid>>(
     rt: &LibcRuntime,
     cell: &Cell<'_, Grid>,
-    source: &BoxSource,
+    source: &S,
     row: &[Grid],
     name: &str,
 ) -> Result<(), AnyError> {
@@ -97,7 +97,7 @@ fn pack(
     cell: &Cell<'_, Grid>,
     source: &BoxSource,
     made: &[LayoutBox],
-) -> Result<(), AnyError> {
+) -> Result<[Grid; MARKS], AnyError> {
     let mut row = [steps(0); MARKS];
     let mut cycle = [0u32; MARKS];
     match cell.compact(source, &mut row, &mut cycle) {
@@ -109,7 +109,7 @@ fn pack(
             }
             println!(rt)?;
             try_row(rt, cell, source, &row, "the packed row")?;
-            draw(rt, made, &row)
+            draw(rt, made, &row)?;
         }
         Err(fault) => {
             let number = fault.refusal().number;
@@ -117,17 +117,18 @@ fn pack(
             if let CompactionFault::OverConstrained(length) = fault {
                 print_cycle(rt, cell, source, &cycle, length)?;
             }
-            Ok(())
         }
     }
+    Ok(row)
 }
 
+// Answers the packed row.
 pub(crate) fn pack_cell(
     rt: &LibcRuntime,
     cell: &mut Cell<'_, Grid>,
     source: &BoxSource,
     made: &[LayoutBox],
-) -> Result<(), AnyError> {
+) -> Result<[Grid; MARKS], AnyError> {
     println!(rt)?;
     try_row(rt, cell, source, &old_row(), "the hand-drawn row")?;
     pack(rt, cell, source, made)?;
