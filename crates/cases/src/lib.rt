@@ -1,4 +1,6 @@
 // Worked cases, and tables of tests over the whole library.
+#![tactic(auto)]
+
 #[cfg(test)]
 mod box_tests;
 #[cfg(test)]

@@ -21,8 +21,8 @@ pub enum Edit<L> {
 pub fn apply<L: Length>(cell: &mut Cell<'_, L>, edit: Edit<L>)
     ensures marks { cell.new.marks ≡ cell.old.marks }
     ensures lent { cell.new.records.ghost_name ≡ cell.old.records.ghost_name }
-    ensures book { book cell.new ≡ edited kind cell.old.marks (used (length (memory cell.old))) (book cell.old) edit }
-    ensures memory { memory cell.new ≡ edited_memory kind cell.old.marks (memory cell.old) (book cell.old) edit }
+    ensures book { book cell.new ≡ edited L.kind cell.old.marks (used (length (memory cell.old))) (book cell.old) edit }
+    ensures memory { memory cell.new ≡ edited_memory L.kind cell.old.marks (memory cell.old) (book cell.old) edit }
 {
     match edit {
         Edit::Enter(tag, rule) => {
@@ -37,9 +37,9 @@ pub fn apply<L: Length>(cell: &mut Cell<'_, L>, edit: Edit<L>)
 // Makes a cell of so many marks on these records, applies the edits in order, and answers how many rules are in
 // the book then. All of them are in force.
 pub fn edit_all<L: Length>(count: usize, records: &mut [Record<L>], edits: &[Edit<L>]) -> usize
-    ensures book { take result records.new ≡ after kind (cell_marks count) (used (length records.old)) edits.now }
-    ensures memory { records.new ≡ after_memory kind (cell_marks count) records.old edits.now }
-    ensures force { book_rules kind (cell_marks count) (take result records.new) ≡ map (by_tag kind (cell_marks count)) (take result records.new) }
+    ensures book { take result records.new ≡ after L.kind (cell_marks count) (used (length records.old)) edits.now }
+    ensures memory { records.new ≡ after_memory L.kind (cell_marks count) records.old edits.now }
+    ensures force { book_rules L.kind (cell_marks count) (take result records.new) ≡ map (by_tag L.kind (cell_marks count)) (take result records.new) }
 {
     let mut cell = Cell::new(count, records);
     for edit in edits {

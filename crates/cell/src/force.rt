@@ -35,7 +35,7 @@ pub(crate) fn gather_boundary<L: Length>(marks: usize, flat: &mut [Numbered<L>])
     requires le_marks { (1 ≤ marks) × (marks ≤ 256) }
     requires marks_in_bounds { marks ≤ length flat.old }
     ensures count { result + 1 ≡ marks }
-    ensures rules { take result flat.new ≡ boundary_rules kind marks }
+    ensures rules { take result flat.new ≡ boundary_rules L.kind marks }
 {
     let mut count = 0;
     for mark in 1..marks {
@@ -57,7 +57,7 @@ pub(crate) fn gather_book<L: Length>(
     requires filled_in_bounds { filled ≤ length records.now }
     requires filled_in_bounds_2 { start + filled ≤ length flat.old }
     ensures count { result ≤ start + filled }
-    ensures rules { take result flat.new ≡ take start flat.old ++ book_rules kind marks (take filled records.now) }
+    ensures rules { take result flat.new ≡ take start flat.old ++ book_rules L.kind marks (take filled records.now) }
 {
     let mut count = start;
     for i in 0..filled {
@@ -81,7 +81,7 @@ pub(crate) fn gather_source<L: Length, S: Source<L>>(
 ) -> Result<usize, SourceFault>
     requires places_value { (places ≡ length (S.Source.listing source.now)) × (places ≤ 8192) }
     requires places_in_bounds { start + places ≤ length flat.old }
-    ensures { GathersSource kind marks (S.Source.listing source.now) start flat.old result flat.new }
+    ensures { GathersSource L.kind marks (S.Source.listing source.now) start flat.old result flat.new }
 {
     let mut count = start;
     for place in 0..places {

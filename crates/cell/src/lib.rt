@@ -1,4 +1,6 @@
 // The cell: its marks, its rule memory, and the calls on it.
+#![tactic(auto)]
+
 pub mod cell;
 pub mod editing;
 mod force;

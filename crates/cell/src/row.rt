@@ -8,13 +8,13 @@ use lengths::length::Length;
 const ROW_LIMIT: u64 = 10_000_000_000_000;
 
 fn is_zero<L: Length>(x: L) -> bool
-    ensures { result ≡ is_zero kind x }
+    ensures { result ≡ is_zero L.kind x }
 {
     x.measure() <= ROW_LIMIT && (x.at_most(L::zero()) && L::zero().at_most(x))
 }
 
 fn may_lie<L: Length>(mark: usize, x: L) -> bool
-    ensures { result ≡ may_lie kind mark x }
+    ensures { result ≡ may_lie L.kind mark x }
 {
     if mark == 0 {
         is_zero(x)
@@ -26,7 +26,7 @@ fn may_lie<L: Length>(mark: usize, x: L) -> bool
 // The first of so many marks that may not lie where the row puts it.
 pub(crate) fn first_bad_mark<L: Length>(marks: usize, row: &[L]) -> Option<usize>
     requires { marks ≤ length row.now }
-    ensures { result ≡ bad_mark kind 0 (take marks row.now) }
+    ensures { result ≡ bad_mark L.kind 0 (take marks row.now) }
 {
     for mark in 0..marks {
         let x = row[mark];

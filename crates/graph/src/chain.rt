@@ -22,10 +22,10 @@ pub(crate) fn returns_after<L: Length>(
     last: &[usize],
     mark: usize,
 ) -> usize
-    requires sound { is_sound kind marks rules.now ≡ true }
+    requires sound { is_sound L.kind marks rules.now ≡ true }
     requires room { marks ≤ length last.now }
     requires below { mark < marks }
-    ensures { Comes kind marks rules.now last.now mark result }
+    ensures { Comes L.kind marks rules.now last.now mark result }
 {
     let mut at = mark;
     for step in 0..marks {
@@ -47,9 +47,9 @@ pub(crate) fn returns_after<L: Length>(
 
 // The smallest mark on a closed chain of last rules, or `marks` where there is none.
 pub(crate) fn closed_mark<L: Length>(marks: usize, rules: &[Numbered<L>], last: &[usize]) -> usize
-    requires sound { is_sound kind marks rules.now ≡ true }
+    requires sound { is_sound L.kind marks rules.now ≡ true }
     requires room { marks ≤ length last.now }
-    ensures { Found kind marks rules.now last.now result }
+    ensures { Found L.kind marks rules.now last.now result }
 {
     for mark in 0..marks {
         if returns_after(marks, rules, last, mark) > 0 {

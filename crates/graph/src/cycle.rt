@@ -32,11 +32,11 @@ fn write_chain<L: Length>(
     count: usize,
     list: &mut [u32],
 )
-    requires sound { is_sound kind marks rules.now ≡ true }
+    requires sound { is_sound L.kind marks rules.now ≡ true }
     requires room { marks ≤ length last.now }
-    requires returns { Returns kind marks rules.now last.now mark count }
+    requires returns { Returns L.kind marks rules.now last.now mark count }
     requires fits { count ≤ length list.old }
-    ensures { list.new ≡ numbers (chain kind marks rules.now last.now count mark) ++ drop count list.old }
+    ensures { list.new ≡ numbers (chain L.kind marks rules.now last.now count mark) ++ drop count list.old }
 {
     let mut at = mark;
     for step in 0..count {
@@ -55,7 +55,7 @@ pub fn show_cycle<L: Length>(
     row: &mut [L],
     list: &mut [u32],
 ) -> Shown
-    ensures { Shows kind marks rules.now row.old list.old result row.new list.new }
+    ensures { Shows L.kind marks rules.now row.old list.old result row.new list.new }
 {
     if !sound(marks, rules) {
         return Shown::Unready;

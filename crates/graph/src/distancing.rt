@@ -23,7 +23,7 @@ pub enum Distancing {
 // Writes the longest path length from each mark to each into a table, the opposite of the far length
 // where no path leads. Where the rules have a positive cycle, the entries are zero afterwards.
 pub fn distances<L: Length>(marks: usize, rules: &[Numbered<L>], table: &mut [L]) -> Distancing
-    ensures { Distanced kind marks rules.now table.old result table.new }
+    ensures { Distanced L.kind marks rules.now table.old result table.new }
 {
     if !sound(marks, rules) {
         return Distancing::Unready;

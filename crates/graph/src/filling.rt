@@ -32,7 +32,7 @@ fn fill<L: Copy>(count: usize, value: L, table: &mut [L])
 fn zero_diagonal<L: Length>(marks: usize, table: &mut [L])
     requires few { marks ≤ 256 }
     requires long { marks * marks ≤ length table.old }
-    ensures { table.new ≡ diagonal kind marks marks table.old }
+    ensures { table.new ≡ diagonal L.kind marks marks table.old }
 {
     for i in 0..marks {
         let at = place(marks, i, i);
@@ -45,7 +45,7 @@ fn raise<L: Length>(marks: usize, rule: Rule<L>, table: &mut [L])
     requires few { marks ≤ 256 }
     requires below { (rule.from < marks) × (rule.to < marks) }
     requires long { marks * marks ≤ length table.old }
-    ensures { table.new ≡ raised kind marks rule table.old }
+    ensures { table.new ≡ raised L.kind marks rule table.old }
 {
     let at = place(marks, rule.from as usize, rule.to as usize);
     let held = table[at];
@@ -58,9 +58,9 @@ fn raise<L: Length>(marks: usize, rule: Rule<L>, table: &mut [L])
 // Raises the entries of a table to the gaps of the rules.
 fn raise_all<L: Length>(marks: usize, rules: &[Numbered<L>], table: &mut [L])
     requires few { marks ≤ 256 }
-    requires inside { Inside kind rules.now marks }
+    requires inside { Inside L.kind rules.now marks }
     requires long { marks * marks ≤ length table.old }
-    ensures { table.new ≡ raised_all kind marks rules.now table.old }
+    ensures { table.new ≡ raised_all L.kind marks rules.now table.old }
 {
     for i in 0..rules.len() {
         let listed = rules[i];
@@ -70,9 +70,9 @@ fn raise_all<L: Length>(marks: usize, rules: &[Numbered<L>], table: &mut [L])
 
 // The table before the first midpoint.
 pub(crate) fn begin<L: Length>(marks: usize, rules: &[Numbered<L>], table: &mut [L])
-    requires sound { is_sound kind marks rules.now ≡ true }
+    requires sound { is_sound L.kind marks rules.now ≡ true }
     requires long { marks * marks ≤ length table.old }
-    ensures { table.new ≡ begun kind marks rules.now table.old }
+    ensures { table.new ≡ begun L.kind marks rules.now table.old }
 {
     let far = L::far();
     let none = far.opposite();

@@ -1,4 +1,6 @@
 // The constraint graph: trials of rows, positions by rounds of raises, cycles, and distances.
+#![tactic(auto)]
+
 mod chain;
 pub mod cycle;
 pub mod distancing;

@@ -8,7 +8,7 @@ use lengths::length::Length;
 // An entry over a midpoint: the larger of what it holds and the lengths to and from the midpoint together.
 // A missing length is told before anything is added.
 fn through<L: Length>(before: L, after: L, held: L) -> L
-    ensures { result ≡ over_entry kind before after held }
+    ensures { result ≡ over_entry L.kind before after held }
 {
     let none = L::far().opposite();
     if before.at_most(none) {
@@ -29,7 +29,7 @@ fn over_row<L: Length>(marks: usize, middle: usize, from: usize, table: &mut [L]
     requires few { marks ≤ 256 }
     requires below { (middle < marks) × (from < marks) }
     requires long { marks * marks ≤ length table.old }
-    ensures { RowUpto kind marks middle from marks table.old table.new }
+    ensures { RowUpto L.kind marks middle from marks table.old table.new }
 {
     let first = place(marks, from, middle);
     let before = table[first];
@@ -47,7 +47,7 @@ fn over_rows<L: Length>(marks: usize, middle: usize, table: &mut [L])
     requires few { marks ≤ 256 }
     requires below { middle < marks }
     requires long { marks * marks ≤ length table.old }
-    ensures { Still kind marks middle table.old → TableUpto kind marks middle marks table.old table.new }
+    ensures { Still L.kind marks middle table.old → TableUpto L.kind marks middle marks table.old table.new }
 {
     for from in 0..marks {
         over_row(marks, middle, from, table);
@@ -58,7 +58,7 @@ fn over_rows<L: Length>(marks: usize, middle: usize, table: &mut [L])
 pub(crate) fn over_marks<L: Length>(marks: usize, table: &mut [L])
     requires few { marks ≤ 256 }
     requires long { marks * marks ≤ length table.old }
-    ensures { Overs kind marks marks table.old table.new }
+    ensures { Overs L.kind marks marks table.old table.new }
 {
     for middle in 0..marks {
         over_rows(marks, middle, table);

@@ -8,7 +8,7 @@ use lengths::length::Length;
 
 // Raises the marks of a row from zero until it keeps every rule.
 pub fn pack<L: Length>(marks: usize, rules: &[Numbered<L>], row: &mut [L]) -> Settling
-    ensures { PacksFrom kind marks rules.now row.old result row.new }
+    ensures { PacksFrom L.kind marks rules.now row.old result row.new }
 {
     if !sound(marks, rules) {
         return Settling::Unready;

@@ -21,7 +21,7 @@ pub enum Settling {
 // Sets the first `marks` entries of a row to zero.
 pub(crate) fn clear<L: Length>(marks: usize, row: &mut [L])
     requires { marks ≤ length row.old }
-    ensures { row.new ≡ cleared kind marks row.old }
+    ensures { row.new ≡ cleared L.kind marks row.old }
 {
     for i in 0..marks {
         row[i] = L::zero();
@@ -31,7 +31,7 @@ pub(crate) fn clear<L: Length>(marks: usize, row: &mut [L])
 // Raises the entries of a row until it keeps every rule. Where the rules have a positive cycle, the
 // entries of the marks are zero afterwards; a row that is not ready is left as it was.
 pub fn positions<L: Length>(marks: usize, rules: &[Numbered<L>], row: &mut [L]) -> Settling
-    ensures { Positioned kind marks rules.now row.old result row.new }
+    ensures { Positioned L.kind marks rules.now row.old result row.new }
 {
     if !ready(marks, rules, row) {
         return Settling::Unready;

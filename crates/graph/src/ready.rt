@@ -7,7 +7,7 @@ use lengths::length::Length;
 
 // Whether every rule fits so many marks.
 fn all_fit<L: Length>(marks: usize, rules: &[Numbered<L>]) -> bool
-    ensures { result ≡ all_fit kind marks rules.now }
+    ensures { result ≡ all_fit L.kind marks rules.now }
 {
     for i in 0..rules.len() {
         let listed = rules[i];
@@ -21,7 +21,7 @@ fn all_fit<L: Length>(marks: usize, rules: &[Numbered<L>]) -> bool
 // Whether the first `marks` lengths of a row are near enough to start from.
 fn all_near<L: Length>(marks: usize, row: &[L]) -> bool
     requires { marks ≤ length row.now }
-    ensures { result ≡ all_near kind (take marks row.now) }
+    ensures { result ≡ all_near L.kind (take marks row.now) }
 {
     for i in 0..marks {
         let entry = row[i];
@@ -34,7 +34,7 @@ fn all_near<L: Length>(marks: usize, row: &[L]) -> bool
 
 // From 1 to 256 marks, at most 12,543 rules, and each of them fits.
 pub(crate) fn sound<L: Length>(marks: usize, rules: &[Numbered<L>]) -> bool
-    ensures { result ≡ is_sound kind marks rules.now }
+    ensures { result ≡ is_sound L.kind marks rules.now }
 {
     if marks < 1 {
         return false;
@@ -50,7 +50,7 @@ pub(crate) fn sound<L: Length>(marks: usize, rules: &[Numbered<L>]) -> bool
 
 // Sound rules, and a row with a near length for each mark.
 pub fn ready<L: Length>(marks: usize, rules: &[Numbered<L>], row: &[L]) -> bool
-    ensures { result ≡ is_ready kind marks rules.now row.now }
+    ensures { result ≡ is_ready L.kind marks rules.now row.now }
 {
     if !sound(marks, rules) {
         return false;

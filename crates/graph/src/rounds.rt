@@ -12,7 +12,7 @@ use rules::rule::Rule;
 // Raises the mark that a rule leads to where the row breaks the rule, and notes the rule's index there.
 fn relax<L: Length>(rule: Rule<L>, index: usize, row: &mut [L], last: &mut [usize]) -> bool
     requires { (rule.from < length row.old) × ((rule.to < length row.old) × (rule.to < length last.old)) }
-    ensures { Relaxed kind rule index row.old last.old result row.new last.new }
+    ensures { Relaxed L.kind rule index row.old last.old result row.new last.new }
 {
     let before = row[rule.from as usize];
     let held = row[rule.to as usize];
@@ -40,9 +40,9 @@ fn one_round<L: Length>(
     last: &mut [usize],
     forwards: bool,
 ) -> bool
-    requires inside { Inside kind rules.now (length row.old) }
-    requires noted { Inside kind rules.now (length last.old) }
-    ensures { (n : ℕ) (start : List L) (tries current : ℕ) → Setting kind n rules.now start → tries + length rules.now ≤ most_raises → RoundAt kind n rules.now start tries current forwards 0 false row.old last.old → RoundAt kind n rules.now start (tries + length rules.now) current forwards (length rules.now) result row.new last.new }
+    requires inside { Inside L.kind rules.now (length row.old) }
+    requires noted { Inside L.kind rules.now (length last.old) }
+    ensures { (n : ℕ) (start : List L) (tries current : ℕ) → Setting L.kind n rules.now start → tries + length rules.now ≤ most_raises → RoundAt L.kind n rules.now start tries current forwards 0 false row.old last.old → RoundAt L.kind n rules.now start (tries + length rules.now) current forwards (length rules.now) result row.new last.new }
 {
     let mut raised = false;
     for step in 0..rules.len() {
@@ -63,10 +63,10 @@ pub(crate) fn rounds<L: Length>(
     row: &mut [L],
     last: &mut [usize],
 ) -> usize
-    requires sound { is_sound kind marks rules.now ≡ true }
+    requires sound { is_sound L.kind marks rules.now ≡ true }
     requires long { marks ≤ length row.old }
     requires room { marks ≤ length last.old }
-    ensures { (start : List L) → Setting kind marks rules.now start → Fresh kind marks rules.now start row.old last.old → Ended kind marks rules.now start result row.new last.new }
+    ensures { (start : List L) → Setting L.kind marks rules.now start → Fresh L.kind marks rules.now start row.old last.old → Ended L.kind marks rules.now start result row.new last.new }
 {
     for past in 0..marks {
         if !one_round(rules, row, last, past % 2 == 0) {

@@ -32,7 +32,7 @@ fn marks_below<L: Copy>(marks: usize, rules: &[Numbered<L>]) -> bool
 // Whether a row breaks a rule.
 fn breaks<L: Length>(row: &[L], rule: Rule<L>) -> bool
     requires { (rule.from < length row.now) × (rule.to < length row.now) }
-    ensures { result ≡ broken_by kind row.now rule }
+    ensures { result ≡ broken_by L.kind row.now rule }
 {
     let start = row[rule.from as usize];
     let end = row[rule.to as usize];
@@ -52,7 +52,7 @@ fn smaller(smallest: Option<u32>, number: u32) -> u32
 // Some(0) where the row keeps every rule, else the smallest number of a broken one.
 // None where the rules cannot be tried: a mark not below `marks`, or a row shorter than that.
 pub fn trial<L: Length>(marks: usize, rules: &[Numbered<L>], row: &[L]) -> Option<u32>
-    ensures { Tried kind marks rules.now row.now result }
+    ensures { Tried L.kind marks rules.now row.now result }
 {
     if row.len() < marks {
         return None;

@@ -1,4 +1,6 @@
 // Kinds of length: the trait that every kind keeps, and the two kinds delivered.
+#![tactic(auto)]
+
 pub mod grid;
 pub mod length;
 pub mod stored;

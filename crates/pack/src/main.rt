@@ -1,4 +1,6 @@
 // Packs the cell of a small inverter and prints the work.
+#![tactic(auto)]
+
 mod designer;
 mod drawing;
 mod inverter;

@@ -10,7 +10,7 @@ fn leads<L: Length>(marks: usize, table: &[L], mark: usize) -> bool
     requires few { marks ≤ 256 }
     requires below { mark < marks }
     requires long { marks * marks ≤ length table.now }
-    ensures { result ≡ is_leader kind marks table.now mark }
+    ensures { result ≡ is_leader L.kind marks table.now mark }
 {
     for smaller in 0..mark {
         if tied(marks, table, mark, smaller) {
@@ -25,7 +25,7 @@ pub(crate) fn note_leaders<L: Length>(marks: usize, table: &[L], notes: &mut [bo
     requires few { marks ≤ 256 }
     requires long { marks * marks ≤ length table.now }
     requires room { marks ≤ length notes.old }
-    ensures { Noted kind marks table.now notes.new marks }
+    ensures { Noted L.kind marks table.now notes.new marks }
 {
     for mark in 0..marks {
         notes[mark] = leads(marks, table, mark);

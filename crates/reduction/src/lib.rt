@@ -1,4 +1,6 @@
 // The reduced list of a table of distances: groups of tied marks as rings, and the pairs of leaders that no third one splits.
+#![tactic(auto)]
+
 mod leading;
 mod listing;
 pub mod reduction;

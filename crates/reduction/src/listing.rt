@@ -10,7 +10,7 @@ use rules::rule::Rule;
 
 // A distance as a gap.
 fn gap_of<L: Length>(told: Option<L>) -> L
-    ensures { result ≡ as_gap kind told }
+    ensures { result ≡ as_gap L.kind told }
 {
     match told {
         None => L::zero(),
@@ -45,7 +45,7 @@ pub(crate) fn put_distance<L: Length>(
     requires long { marks * marks ≤ length table.now }
     requires counted { count ≤ 1_000_000 }
     ensures is { result ≡ count + 1 }
-    ensures lays { Appends (distance_rule kind (table_distance kind table.now marks) from to ∷ []) list.old count list.new result }
+    ensures lays { Appends (distance_rule L.kind (table_distance L.kind table.now marks) from to ∷ []) list.old count list.new result }
 {
     let gap = gap_of(distance(marks, table, from, to));
     let rule = Rule::minimum(from as u16, to as u16, gap);
@@ -65,7 +65,7 @@ pub(crate) fn put_ring<L: Length>(
     requires long { marks * marks ≤ length table.now }
     requires counted { count ≤ 500_000 }
     ensures most { result ≤ count + 300 }
-    ensures lays { Appends (ring kind (table_distance kind table.now marks) (group kind (table_distance kind table.now marks) marks leader)) list.old count list.new result }
+    ensures lays { Appends (ring L.kind (table_distance L.kind table.now marks) (group L.kind (table_distance L.kind table.now marks) marks leader)) list.old count list.new result }
 {
     let mut end = count;
     let mut first = marks;

@@ -27,9 +27,9 @@ fn put_rings<L: Length>(marks: usize, table: &[L], notes: &[bool], list: &mut [R
     requires few { marks ≤ 256 }
     requires long { marks * marks ≤ length table.now }
     requires room { marks ≤ length notes.now }
-    requires noted { Noted kind marks table.now notes.now marks }
+    requires noted { Noted L.kind marks table.now notes.now marks }
     ensures most { result ≤ 76_800 }
-    ensures lays { Appends (flat_map (λ a. ring kind (table_distance kind table.now marks) (group kind (table_distance kind table.now marks) marks a)) (leaders kind (table_distance kind table.now marks) marks)) list.old 0 list.new result }
+    ensures lays { Appends (flat_map (λ a. ring L.kind (table_distance L.kind table.now marks) (group L.kind (table_distance L.kind table.now marks) marks a)) (leaders L.kind (table_distance L.kind table.now marks) marks)) list.old 0 list.new result }
 {
     let mut end = 0;
     for mark in 0..marks {
@@ -47,8 +47,8 @@ fn may_pair<L: Length>(marks: usize, table: &[L], notes: &[bool], from: usize, t
     requires below { (from < marks) × (to < marks) }
     requires long { marks * marks ≤ length table.now }
     requires room { marks ≤ length notes.now }
-    requires noted { Noted kind marks table.now notes.now marks }
-    ensures { result ≡ (is_leader kind marks table.now to && (not (from == to) && is_some (table_distance kind table.now marks from to))) }
+    requires noted { Noted L.kind marks table.now notes.now marks }
+    ensures { result ≡ (is_leader L.kind marks table.now to && (not (from == to) && is_some (table_distance L.kind table.now marks from to))) }
 {
     if !notes[to] {
         return false;
@@ -72,8 +72,8 @@ fn parts<L: Length>(
     requires below { (from < marks) × ((to < marks) × (third < marks)) }
     requires long { marks * marks ≤ length table.now }
     requires room { marks ≤ length notes.now }
-    requires noted { Noted kind marks table.now notes.now marks }
-    ensures { result ≡ (is_leader kind marks table.now third && is_split kind (table_distance kind table.now marks) from to third) }
+    requires noted { Noted L.kind marks table.now notes.now marks }
+    ensures { result ≡ (is_leader L.kind marks table.now third && is_split L.kind (table_distance L.kind table.now marks) from to third) }
 {
     if !notes[third] {
         return false;
@@ -94,10 +94,10 @@ fn put_pairs<L: Length>(
     requires below { from < marks }
     requires long { marks * marks ≤ length table.now }
     requires room { marks ≤ length notes.now }
-    requires noted { Noted kind marks table.now notes.now marks }
+    requires noted { Noted L.kind marks table.now notes.now marks }
     requires counted { count ≤ 500_000 }
     ensures most { result ≤ count + 300 }
-    ensures lays { Appends (pairs_from kind (table_distance kind table.now marks) marks from) list.old count list.new result }
+    ensures lays { Appends (pairs_from L.kind (table_distance L.kind table.now marks) marks from) list.old count list.new result }
 {
     let mut end = count;
     'pairs: for to in 0..marks {
@@ -125,9 +125,9 @@ fn put_all_pairs<L: Length>(
     requires few { marks ≤ 256 }
     requires long { marks * marks ≤ length table.now }
     requires room { marks ≤ length notes.now }
-    requires noted { Noted kind marks table.now notes.now marks }
+    requires noted { Noted L.kind marks table.now notes.now marks }
     requires counted { count ≤ 76_800 }
-    ensures { Appends (flat_map (pairs_from kind (table_distance kind table.now marks) marks) (leaders kind (table_distance kind table.now marks) marks)) list.old count list.new result }
+    ensures { Appends (flat_map (pairs_from L.kind (table_distance L.kind table.now marks) marks) (leaders L.kind (table_distance L.kind table.now marks) marks)) list.old count list.new result }
 {
     let mut end = count;
     for mark in 0..marks {
@@ -144,8 +144,8 @@ fn put_rules<L: Length>(marks: usize, table: &[L], notes: &[bool], list: &mut [R
     requires few { marks ≤ 256 }
     requires long { marks * marks ≤ length table.now }
     requires room { marks ≤ length notes.now }
-    requires noted { Noted kind marks table.now notes.now marks }
-    ensures { Appends (reduced kind marks table.now) list.old 0 list.new result }
+    requires noted { Noted L.kind marks table.now notes.now marks }
+    ensures { Appends (reduced L.kind marks table.now) list.old 0 list.new result }
 {
     let end = put_rings(marks, table, notes, list);
     put_all_pairs(marks, table, notes, end, list)
@@ -156,8 +156,8 @@ fn count_rules<L: Length>(marks: usize, table: &[L], notes: &[bool]) -> usize
     requires few { marks ≤ 256 }
     requires long { marks * marks ≤ length table.now }
     requires room { marks ≤ length notes.now }
-    requires noted { Noted kind marks table.now notes.now marks }
-    ensures { result ≡ length (reduced kind marks table.now) }
+    requires noted { Noted L.kind marks table.now notes.now marks }
+    ensures { result ≡ length (reduced L.kind marks table.now) }
 {
     let mut nowhere: [Rule<L>; 0] = [];
     put_rules(marks, table, notes, &mut nowhere)
@@ -165,7 +165,7 @@ fn count_rules<L: Length>(marks: usize, table: &[L], notes: &[bool]) -> usize
 
 // Writes the reduced list of a table of distances to the front of a list, if that is long enough.
 pub fn reduce<L: Length>(marks: usize, table: &[L], list: &mut [Rule<L>]) -> Reducing
-    ensures { Reduced kind marks table.now list.old result list.new }
+    ensures { Reduced L.kind marks table.now list.old result list.new }
 {
     if marks > 256 {
         return Reducing::Unready;

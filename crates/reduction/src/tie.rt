@@ -20,7 +20,7 @@ pub(crate) fn distance<L: Length>(marks: usize, table: &[L], from: usize, to: us
     requires few { marks ≤ 256 }
     requires below { (from < marks) × (to < marks) }
     requires long { marks * marks ≤ length table.now }
-    ensures { result ≡ table_distance kind table.now marks from to }
+    ensures { result ≡ table_distance L.kind table.now marks from to }
 {
     let at = place(marks, from, to);
     let entry = table[at];
@@ -33,7 +33,7 @@ pub(crate) fn distance<L: Length>(marks: usize, table: &[L], from: usize, to: us
 
 // Whether two lengths are equal.
 fn same<L: Length>(first: L, second: L) -> bool
-    ensures { result ≡ equal kind first second }
+    ensures { result ≡ equal L.kind first second }
 {
     if !first.at_most(second) {
         return false;
@@ -43,7 +43,7 @@ fn same<L: Length>(first: L, second: L) -> bool
 
 // Whether two lengths exist and add up to a third.
 fn adds_up<L: Length>(first: Option<L>, second: Option<L>, whole: L) -> bool
-    ensures { result ≡ add_up kind first second whole }
+    ensures { result ≡ add_up L.kind first second whole }
 {
     match first {
         None => false,
@@ -56,7 +56,7 @@ fn adds_up<L: Length>(first: Option<L>, second: Option<L>, whole: L) -> bool
 
 // Whether three lengths exist and the first two add up to the third.
 fn meets<L: Length>(first: Option<L>, second: Option<L>, whole: Option<L>) -> bool
-    ensures { result ≡ meet kind first second whole }
+    ensures { result ≡ meet L.kind first second whole }
 {
     match whole {
         None => false,
@@ -69,7 +69,7 @@ pub(crate) fn tied<L: Length>(marks: usize, table: &[L], from: usize, to: usize)
     requires few { marks ≤ 256 }
     requires below { (from < marks) × (to < marks) }
     requires long { marks * marks ≤ length table.now }
-    ensures { result ≡ is_Tied kind (table_distance kind table.now marks) from to }
+    ensures { result ≡ is_Tied L.kind (table_distance L.kind table.now marks) from to }
 {
     let there = distance(marks, table, from, to);
     let back = distance(marks, table, to, from);
@@ -87,7 +87,7 @@ pub(crate) fn splits<L: Length>(
     requires few { marks ≤ 256 }
     requires below { (from < marks) × ((to < marks) × (third < marks)) }
     requires long { marks * marks ≤ length table.now }
-    ensures { result ≡ is_split kind (table_distance kind table.now marks) from to third }
+    ensures { result ≡ is_split L.kind (table_distance L.kind table.now marks) from to third }
 {
     if third == from {
         return false;

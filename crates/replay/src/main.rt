@@ -1,4 +1,6 @@
 // Replays calls on cells, read as text from standard input.
+#![tactic(auto)]
+
 mod editing;
 mod line;
 mod making;

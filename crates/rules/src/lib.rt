@@ -1,4 +1,6 @@
 // Rules between marks, the check of a rule, and sources of rules.
+#![tactic(auto)]
+
 pub mod either;
 pub mod empty;
 pub mod fault;

@@ -22,7 +22,7 @@ impl<L: Length> Rule<L> {
 
     // `to` lies at most `gap` beyond `from`: `from` lies at least the opposite of `gap` beyond `to`.
     pub fn maximum(from: u16, to: u16, gap: L) -> Rule<L>
-        ensures { result ≡ maximum kind from to gap }
+        ensures { result ≡ maximum L.kind from to gap }
     {
         Rule {
             from: to,
@@ -33,7 +33,7 @@ impl<L: Length> Rule<L> {
 
     // Whether the rule fits a cell of so many marks; the first cause that applies if not.
     pub fn check(self, marks: usize) -> Result<(), RuleFault>
-        ensures { result ≡ rule_check kind marks self }
+        ensures { result ≡ rule_check L.kind marks self }
     {
         if self.from as usize >= marks || self.to as usize >= marks {
             return Err(RuleFault::NoSuchMark);

@@ -17,9 +17,9 @@ use rules::source::Source;
 pub fn perform<L: Length + Stored, S: Source<L>>(cell: &mut Cell<'_, L>, turn: &mut Turn<L, S>)
     ensures marks { cell.new.marks ≡ cell.old.marks }
     ensures lent { cell.new.records.ghost_name ≡ cell.old.records.ghost_name }
-    ensures book { book cell.new ≡ book_after kind cell.old.marks (used (length (memory cell.old))) (book cell.old) turn.old.call }
-    ensures memory { memory cell.new ≡ memory_after kind cell.old.marks (memory cell.old) (book cell.old) turn.old.call }
-    ensures performs { Performs kind S.Source.listing cell.old.marks (used (length (memory cell.old))) (book cell.old) turn.old turn.new }
+    ensures book { book cell.new ≡ book_after L.kind cell.old.marks (used (length (memory cell.old))) (book cell.old) turn.old.call }
+    ensures memory { memory cell.new ≡ memory_after L.kind cell.old.marks (memory cell.old) (book cell.old) turn.old.call }
+    ensures performs { Performs L.kind S.Source.listing cell.old.marks (used (length (memory cell.old))) (book cell.old) turn.old turn.new }
 {
     match turn.call {
         Call::Enter(tag, rule) => {
@@ -51,9 +51,9 @@ pub fn run<L: Length + Stored, S: Source<L>>(
     records: &mut [Record<L>],
     turns: &mut [Turn<L, S>],
 )
-    ensures faithful { Faithful kind S.Source.listing (cell_marks marks) (used (length records.old)) [] turns.old turns.new }
-    ensures book { take (length (after kind (cell_marks marks) (used (length records.old)) (calls turns.old))) records.new ≡ after kind (cell_marks marks) (used (length records.old)) (calls turns.old) }
-    ensures memory { records.new ≡ after_memory kind (cell_marks marks) records.old (calls turns.old) }
+    ensures faithful { Faithful L.kind S.Source.listing (cell_marks marks) (used (length records.old)) [] turns.old turns.new }
+    ensures book { take (length (after L.kind (cell_marks marks) (used (length records.old)) (calls turns.old))) records.new ≡ after L.kind (cell_marks marks) (used (length records.old)) (calls turns.old) }
+    ensures memory { records.new ≡ after_memory L.kind (cell_marks marks) records.old (calls turns.old) }
 {
     let mut cell = Cell::new(marks, records);
     for turn in turns.iter_mut() {

@@ -1,4 +1,6 @@
 // Takes the cell of a small inverter through weeks of editing, and prints the work.
+#![tactic(auto)]
+
 mod answers;
 mod designer;
 mod drawing;

@@ -40,10 +40,10 @@ fn settle<L: Length>(
     cycle: &mut [u32],
 ) -> Result<(), CompactionFault>
     requires counted { count ≤ length flat.now }
-    requires sound { sound kind marks (take count flat.now) ≡ true }
-    requires bordered { Bordered kind marks (take count flat.now) }
+    requires sound { sound L.kind marks (take count flat.now) ≡ true }
+    requires bordered { Bordered L.kind marks (take count flat.now) }
     requires room { (marks ≤ length row.old) × (marks ≤ length cycle.old) }
-    ensures { Sought kind marks (take count flat.now) row.old cycle.old result row.new cycle.new }
+    ensures { Sought L.kind marks (take count flat.now) row.old cycle.old result row.new cycle.new }
 {
     let rules = &flat[0..count];
     match pack(marks, rules, row) {
@@ -67,7 +67,7 @@ impl<'m, L: Length> Cell<'m, L> {
         flat: &mut [Numbered<L>],
     ) -> Result<(), CompactionFault>
         requires { 12543 ≤ length flat.old }
-        ensures { Compacts kind self.now.marks (book self.now) (S.Source.listing source.now) row.old cycle.old result row.new cycle.new }
+        ensures { Compacts L.kind self.now.marks (book self.now) (S.Source.listing source.now) row.old cycle.old result row.new cycle.new }
     {
         let count = self.gather(source, flat)?;
         check_room(self.marks, row.len(), cycle.len())?;
@@ -84,8 +84,8 @@ impl<'m, L: Length + Stored> Cell<'m, L> {
         row: &mut [L],
         cycle: &mut [u32],
     ) -> Result<(), CompactionFault>
-        ensures does { Compacts kind self.now.marks (book self.now) (S.Source.listing source.now) row.old cycle.old result row.new cycle.new }
-        ensures right { CompactionFinding kind self.now.marks (in_force kind self.now.marks (book self.now) (S.Source.listing source.now)) result row.new cycle.new → ⊥ }
+        ensures does { Compacts L.kind self.now.marks (book self.now) (S.Source.listing source.now) row.old cycle.old result row.new cycle.new }
+        ensures right { CompactionFinding L.kind self.now.marks (in_force L.kind self.now.marks (book self.now) (S.Source.listing source.now)) result row.new cycle.new → ⊥ }
     {
         L::stored();
         let mut flat = [blank::<L>(); MOST_RULES];

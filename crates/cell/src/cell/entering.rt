@@ -40,7 +40,7 @@ impl<'m, L: Copy> Cell<'m, L> {
 impl<'m, L: Length> Cell<'m, L> {
     // Enters a rule under a tag; a refusal changes nothing.
     pub fn enter(&mut self, tag: u16, rule: Rule<L>) -> Result<(), EntryFault>
-        ensures { Enters kind self.old tag rule result self.new }
+        ensures { Enters L.kind self.old tag rule result self.new }
     {
         if tag == 0 {
             return Err(EntryFault::NoTag);

@@ -18,7 +18,7 @@ impl<'m, L: Length> Cell<'m, L> {
         flat: &mut [Numbered<L>],
     ) -> Result<usize, SourceFault>
         requires { 12543 ≤ length flat.old }
-        ensures { Gathers kind self.now.marks (book self.now) (S.Source.listing source.now) result flat.new }
+        ensures { Gathers L.kind self.now.marks (book self.now) (S.Source.listing source.now) result flat.new }
     {
         let places = source.places();
         if places > PLACE_LIMIT {

@@ -26,9 +26,9 @@ fn reduce_first<L: Length>(
     list: &mut [Rule<L>],
 ) -> Result<usize, ReductionFault>
     requires counted { count ≤ length flat.now }
-    requires sound { sound kind marks (take count flat.now) ≡ true }
+    requires sound { sound L.kind marks (take count flat.now) ≡ true }
     requires room { marks * marks ≤ length table.old }
-    ensures { Sought kind marks (take count flat.now) table.old list.old result table.new list.new }
+    ensures { Sought L.kind marks (take count flat.now) table.old list.old result table.new list.new }
 {
     let rules = &flat[0..count];
     match distances(marks, rules, table) {
@@ -52,7 +52,7 @@ impl<'m, L: Length> Cell<'m, L> {
         flat: &mut [Numbered<L>],
     ) -> Result<usize, ReductionFault>
         requires { 12543 ≤ length flat.old }
-        ensures { Reduces kind self.now.marks (book self.now) (S.Source.listing source.now) table.old list.old result table.new list.new }
+        ensures { Reduces L.kind self.now.marks (book self.now) (S.Source.listing source.now) table.old list.old result table.new list.new }
     {
         let count = self.gather(source, flat)?;
         if table.len() < self.marks * self.marks {
@@ -71,8 +71,8 @@ impl<'m, L: Length + Stored> Cell<'m, L> {
         table: &mut [L],
         list: &mut [Rule<L>],
     ) -> Result<usize, ReductionFault>
-        ensures does { Reduces kind self.now.marks (book self.now) (S.Source.listing source.now) table.old list.old result table.new list.new }
-        ensures right { ReductionFinding kind self.now.marks (in_force kind self.now.marks (book self.now) (S.Source.listing source.now)) result list.new → ⊥ }
+        ensures does { Reduces L.kind self.now.marks (book self.now) (S.Source.listing source.now) table.old list.old result table.new list.new }
+        ensures right { ReductionFinding L.kind self.now.marks (in_force L.kind self.now.marks (book self.now) (S.Source.listing source.now)) result list.new → ⊥ }
     {
         L::stored();
         let mut flat = [blank::<L>(); MOST_RULES];

@@ -17,7 +17,7 @@ use rules::source::Source;
 // The trial of the first `count` rules.
 fn try_first<L: Length>(marks: usize, flat: &[Numbered<L>], count: usize, row: &[L]) -> Option<u32>
     requires { count ≤ length flat.now }
-    ensures { Tried kind marks (take count flat.now) row.now result }
+    ensures { Tried L.kind marks (take count flat.now) row.now result }
 {
     trial(marks, &flat[0..count], row)
 }
@@ -31,7 +31,7 @@ impl<'m, L: Length> Cell<'m, L> {
         flat: &mut [Numbered<L>],
     ) -> Result<u32, TrialFault>
         requires { 12543 ≤ length flat.old }
-        ensures { Tries kind self.now.marks (book self.now) (S.Source.listing source.now) row.now result }
+        ensures { Tries L.kind self.now.marks (book self.now) (S.Source.listing source.now) row.now result }
     {
         let count = self.gather(source, flat)?;
         if row.len() < self.marks {
@@ -47,7 +47,7 @@ impl<'m, L: Length> Cell<'m, L> {
 impl<'m, L: Length + Stored> Cell<'m, L> {
     // 0 where the row keeps all rules in force, else the smallest number of a broken one.
     pub fn try_row<S: Source<L>>(&self, source: &S, row: &[L]) -> Result<u32, TrialFault>
-        ensures { Tries kind self.now.marks (book self.now) (S.Source.listing source.now) row.now result }
+        ensures { Tries L.kind self.now.marks (book self.now) (S.Source.listing source.now) row.now result }
     {
         L::stored();
         let mut flat = [blank::<L>(); MOST_RULES];

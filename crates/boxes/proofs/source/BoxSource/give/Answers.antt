@@ -5,8 +5,8 @@ use Rattle.boxes.specs.declared.figures.Figures.{Figures}
 use Rattle.boxes.proofs.Holding.{held_places}
 use Rattle.boxes.proofs.source.BoxSource.give.Goals as goal
 
-pub returns-then-self-lt-BOX-LIMIT : goal.returns-then-self-lt-BOX-LIMIT
-returns-then-self-lt-BOX-LIMIT c =
+pub returns-then-self-lt-BOX_LIMIT : goal.returns-then-self-lt-BOX_LIMIT
+returns-then-self-lt-BOX_LIMIT c =
     let b : Figures = c.args.given.figures in
     record {
       places = λ factor boxes h. held_places _ factor boxes h;
@@ -25,8 +25,8 @@ returns-then-self-lt-BOX-LIMIT c =
       };
     }
 
-pub returns-else-self-lt-BOX-LIMIT : goal.returns-else-self-lt-BOX-LIMIT
-returns-else-self-lt-BOX-LIMIT c =
+pub returns-else-self-lt-BOX_LIMIT : goal.returns-else-self-lt-BOX_LIMIT
+returns-else-self-lt-BOX_LIMIT c =
     let b : Figures = c.args.given.figures in
     record {
       places = λ factor boxes h. held_places _ factor boxes h;
