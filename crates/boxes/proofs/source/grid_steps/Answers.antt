@@ -6,8 +6,8 @@ use Rattle.boxes.proofs.source.grid_steps.Goals as goal
 small : (c : goal.Start) → c.args.factor * c.args.lambdas < 2 ^ 63
 small c = omega (arith, mul-le-mul_left c.args.factor c.requires, c.ranges.factor.fits)
 
-pub overflow-cast-result-3 : goal.overflow-cast-result-3
-overflow-cast-result-3 c = record { sfits = small c }
+pub overflow_cast-result-3 : goal.overflow_cast-result-3
+overflow_cast-result-3 c = record { sfits = small c }
 
 pub returns : goal.returns
 returns c = ap grid (to_z_pos w64 (c.args.factor * c.args.lambdas) (small c))

@@ -9,15 +9,15 @@ loop-mark-preserved g c =
     let k = g.L.Length.kind in
     let m = c.loop-mark.mark in
     mark_good k c.args.row.now c.args.marks m c.index-row-mark.result c.loop-mark-test.true c.requires
-    (ap (may_lie k m) (sym c.index-row-mark.is) ∙ sym c.may_lie.ensures ∙ c.if-not-may-lie.false)
+    (ap (may_lie k m) (sym c.index-row-mark.is) ∙ sym c.may_lie.ensures ∙ c.if-not-may_lie.false)
     ∙ c.loop-mark.invariant
 
-pub returns-then-not-may-lie : goal.returns-then-not-may-lie
-returns-then-not-may-lie g c =
+pub returns-then-not-may_lie : goal.returns-then-not-may_lie
+returns-then-not-may_lie g c =
     let k = g.L.Length.kind in
     let m = c.loop-mark.mark in
     sym (mark_bad k c.args.row.now c.args.marks m c.index-row-mark.result c.loop-mark-test.true c.requires
-    (ap (may_lie k m) (sym c.index-row-mark.is) ∙ sym c.may_lie.ensures ∙ c.if-not-may-lie.true))
+    (ap (may_lie k m) (sym c.index-row-mark.is) ∙ sym c.may_lie.ensures ∙ c.if-not-may_lie.true))
     ∙ c.loop-mark.invariant
 
 pub returns : goal.returns

@@ -17,7 +17,7 @@ returns-then-at-mark g c =
     let inv = c.loop-step.invariant in
     let inside = sound_inside k n n rules (omega arith) c.requires.sound in
     let back_one = one_back k n rules last c.args.mark c.requires.below c.loop-step.step c.loop-step.at inv.0 inv.1 inv.2 c.index-rules-index.result inside c.if-index-rules.false c.index-rules-index.is in
-    comes_home k n rules last c.args.mark c.requires.below c.loop-step.step c.loop-step.at inv.0 inv.1 inv.2 c.left-mark-at.result (c.left-mark-at.ensures ∙ back_one.0)
+    comes_home k n rules last c.args.mark c.requires.below c.loop-step.step c.loop-step.at inv.0 inv.1 inv.2 c.left_mark-at.result (c.left_mark-at.ensures ∙ back_one.0)
     (omega (arith, c.loop-step-test.true)) c.if-at-mark.true
 
 pub returns-then-at-mark-2 : goal.returns-then-at-mark-2
@@ -29,7 +29,7 @@ returns-then-at-mark-2 g c =
     let inv = c.loop-step.invariant in
     let inside = sound_inside k n n rules (omega arith) c.requires.sound in
     let back_one = one_back k n rules last c.args.mark c.requires.below c.loop-step.step c.loop-step.at inv.0 inv.1 inv.2 c.index-rules-index.result inside c.if-index-rules.false c.index-rules-index.is in
-    comes_lower k n rules last c.args.mark c.requires.below c.loop-step.step c.loop-step.at inv.0 inv.1 inv.2 c.left-mark-at.result (c.left-mark-at.ensures ∙ back_one.0)
+    comes_lower k n rules last c.args.mark c.requires.below c.loop-step.step c.loop-step.at inv.0 inv.1 inv.2 c.left_mark-at.result (c.left_mark-at.ensures ∙ back_one.0)
     c.if-at-mark-2.true
 
 pub loop-step-preserved : goal.loop-step-preserved
@@ -41,10 +41,10 @@ loop-step-preserved g c =
     let inv = c.loop-step.invariant in
     let inside = sound_inside k n n rules (omega arith) c.requires.sound in
     let back_one = one_back k n rules last c.args.mark c.requires.below c.loop-step.step c.loop-step.at inv.0 inv.1 inv.2 c.index-rules-index.result inside c.if-index-rules.false c.index-rules-index.is in
-    let is = c.left-mark-at.ensures ∙ back_one.0 in (
+    let is = c.left_mark-at.ensures ∙ back_one.0 in (
       is,
-      omega (arith, c.left-mark-at.ensures, back_one.1),
-      still_none k n rules last c.args.mark c.requires.below c.loop-step.step c.loop-step.at inv.0 inv.1 inv.2 c.left-mark-at.result is c.if-at-mark.false,
+      omega (arith, c.left_mark-at.ensures, back_one.1),
+      still_none k n rules last c.args.mark c.requires.below c.loop-step.step c.loop-step.at inv.0 inv.1 inv.2 c.left_mark-at.result is c.if-at-mark.false,
     )
 
 pub returns : goal.returns

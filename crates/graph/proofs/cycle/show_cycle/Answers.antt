@@ -3,11 +3,11 @@ use Rattle.graph.proofs.Readiness.{sound_parts}
 use Rattle.graph.proofs.Answering.{answer_feasible, cycle_returns, answer_cycle}
 use Rattle.graph.proofs.cycle.show_cycle.Goals as goal
 
-pub write-chain-requires : goal.write-chain-requires
-write-chain-requires g c =
+pub write_chain-requires : goal.write_chain-requires
+write_chain-requires g c =
     let returns =
     cycle_returns g.L.Length.kind g.met.L.Length.laws c.args.marks c.args.rules.now c.args.row.now c.args.list.now c.clear.new.row c.rounds-mark.result c.rounds-mark.new.row c.rounds-mark.new.last
-    c.if-not-sound.ensures c.if-row-marks.false c.if-list-marks.false c.clear.ensures c.rounds-mark.ensures c.if-mark-marks.false c.returns-after-count.result c.returns-after-count.ensures in
+    c.if-not-sound.ensures c.if-row-marks.false c.if-list-marks.false c.clear.ensures c.rounds-mark.ensures c.if-mark-marks.false c.returns_after-count.result c.returns_after-count.ensures in
     let is_sound = sym c.if-not-sound.ensures in
     record {
       sound = is_sound;
@@ -24,5 +24,5 @@ returns-then-mark-marks g c =
 pub returns : goal.returns
 returns g c =
     answer_cycle g.L.Length.kind g.met.L.Length.laws c.args.marks c.args.rules.now c.args.row.now c.args.list.now c.clear.new.row c.rounds-mark.result c.rounds-mark.new.row c.rounds-mark.new.last
-    c.if-not-sound.ensures c.if-row-marks.false c.if-list-marks.false c.clear.ensures c.rounds-mark.ensures c.if-mark-marks.false c.returns-after-count.result c.returns-after-count.ensures
-    c.clear-2.new.row c.write-chain.new.list c.clear-2.ensures c.write-chain.ensures
+    c.if-not-sound.ensures c.if-row-marks.false c.if-list-marks.false c.clear.ensures c.rounds-mark.ensures c.if-mark-marks.false c.returns_after-count.result c.returns_after-count.ensures
+    c.clear-2.new.row c.write_chain.new.list c.clear-2.ensures c.write_chain.ensures

@@ -10,8 +10,8 @@ bounds-last-at g c =
     let way = on_way g.L.Length.kind c.args.marks c.args.rules.now c.args.last.now c.args.mark c.args.count c.requires.returns c.loop-step.step c.loop-step.at c.loop-step-test.true c.loop-step.invariant.0 in
     omega (arith, way.0, c.requires.room)
 
-pub offset-bounds-last-at : goal.offset-bounds-last-at
-offset-bounds-last-at g c =
+pub offset_bounds-last-at : goal.offset_bounds-last-at
+offset_bounds-last-at g c =
     let way = on_way g.L.Length.kind c.args.marks c.args.rules.now c.args.last.now c.args.mark c.args.count c.requires.returns c.loop-step.step c.loop-step.at c.loop-step-test.true c.loop-step.invariant.0 in
     let inside : c.loop-step.at < length c.args.last.now = omega (arith, way.0, c.requires.room) in
     search rules
@@ -20,8 +20,8 @@ pub bounds-rules-index : goal.bounds-rules-index
 bounds-rules-index g c =
     (on_way g.L.Length.kind c.args.marks c.args.rules.now c.args.last.now c.args.mark c.args.count c.requires.returns c.loop-step.step c.loop-step.at c.loop-step-test.true c.loop-step.invariant.0).1
 
-pub offset-bounds-rules-index : goal.offset-bounds-rules-index
-offset-bounds-rules-index g c =
+pub offset_bounds-rules-index : goal.offset_bounds-rules-index
+offset_bounds-rules-index g c =
     let way = on_way g.L.Length.kind c.args.marks c.args.rules.now c.args.last.now c.args.mark c.args.count c.requires.returns c.loop-step.step c.loop-step.at c.loop-step-test.true c.loop-step.invariant.0 in
     omega (arith, way.1)
 
@@ -31,7 +31,7 @@ loop-step-preserved g c =
     let n = c.args.marks in
     let rules = c.args.rules.now in
     let last = c.args.last.now in (
-      c.left-mark-at.ensures ∙ way_on k n rules last c.args.mark c.args.count c.requires.returns c.loop-step.step c.loop-step.at c.loop-step-test.true c.loop-step.invariant.0 c.index-rules-index.result c.index-rules-index.is,
+      c.left_mark-at.ensures ∙ way_on k n rules last c.args.mark c.args.count c.requires.returns c.loop-step.step c.loop-step.at c.loop-step-test.true c.loop-step.invariant.0 c.index-rules-index.result c.index-rules-index.is,
       written_more k n rules last c.args.mark c.args.count c.requires.returns c.loop-step.step c.loop-step.at c.loop-step-test.true c.loop-step.invariant.0 c.index-rules-index.result c.index-rules-index.is
           c.args.list.now c.loop-step.list c.requires.fits c.loop-step.invariant.1,
     )

@@ -17,5 +17,5 @@ returns-then-found-marks g c =
 pub returns : goal.returns
 returns g c =
     distances_done g.L.Length.kind g.met.L.Length.laws c.args.marks c.args.rules.now c.args.table.now c.clear.new.row c.rounds-found.result c.rounds-found.new.row c.rounds-found.new.last
-    c.if-not-sound.ensures c.if-table-entries.false c.clear.ensures c.rounds-found.ensures c.begin.new.table c.over-marks.new.table
-    c.if-found-marks.false (omega (arith, c.if-table-entries.false, c.rounds-found.auto.row, c.clear.auto.row)) c.begin.ensures c.over-marks.ensures
+    c.if-not-sound.ensures c.if-table-entries.false c.clear.ensures c.rounds-found.ensures c.begin.new.table c.over_marks.new.table
+    c.if-found-marks.false (omega (arith, c.if-table-entries.false, c.rounds-found.auto.row, c.clear.auto.row)) c.begin.ensures c.over_marks.ensures

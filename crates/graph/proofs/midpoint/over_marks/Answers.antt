@@ -7,7 +7,7 @@ pub loop-middle-init : goal.loop-middle-init
 loop-middle-init g c = overs_none g.L.Length.kind c.args.marks c.args.table.now
 
 pub loop-middle-preserved : goal.loop-middle-preserved
-loop-middle-preserved g c = overs_more g.L.Length.kind c.args.marks c.loop-middle.middle c.args.table.now c.loop-middle.table c.over-rows.new.table c.loop-middle.invariant c.over-rows.ensures
+loop-middle-preserved g c = overs_more g.L.Length.kind c.args.marks c.loop-middle.middle c.args.table.now c.loop-middle.table c.over_rows.new.table c.loop-middle.invariant c.over_rows.ensures
 
 pub returns : goal.returns
 returns g c =

@@ -6,7 +6,7 @@ use Rattle.graph.proofs.trial.trial.Goals.{then-breaks, else-breaks}
 
 pub breaks-requires : goal.breaks-requires
 breaks-requires g c =
-    let below = read_marks_below c.args.marks c.args.rules.now c.loop-i.i c.index-rules-i.result c.loop-i-test.true c.index-rules-i.is c.if-not-marks-below.ensures in
+    let below = read_marks_below c.args.marks c.args.rules.now c.loop-i.i c.index-rules-i.result c.loop-i-test.true c.index-rules-i.is c.if-not-marks_below.ensures in
     (omega arith, omega arith)
 
 pub loop-i-preserved : goal.loop-i-preserved
@@ -24,5 +24,5 @@ loop-i-preserved g c =
 
 pub returns : goal.returns
 returns g c =
-    tried_all g.L.Length.kind c.args.row.now c.args.marks c.args.rules.now c.loop-i.i c.loop-i.smallest c.unwrap-or.result
-    c.if-row-marks.false c.if-not-marks-below.ensures c.loop-i-test.false c.loop-i.invariant c.unwrap-or.ensures
+    tried_all g.L.Length.kind c.args.row.now c.args.marks c.args.rules.now c.loop-i.i c.loop-i.smallest c.unwrap_or.result
+    c.if-row-marks.false c.if-not-marks_below.ensures c.loop-i-test.false c.loop-i.invariant c.unwrap_or.ensures

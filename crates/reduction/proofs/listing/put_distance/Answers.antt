@@ -11,7 +11,7 @@ returns g c =
     let k = g.L.Length.kind in
     let d = table_distance k c.args.table.now c.args.marks in
     let e : c.minimum-rule.result ≡ distance_rule k d c.args.from c.args.to =
-    rule_is k d c.args.from c.args.to _ _ c.distance.result c.gap-of-gap.result c.minimum-rule.result (omega arith) (omega arith) c.distance.ensures c.gap-of-gap.ensures c.minimum-rule.ensures in
+    rule_is k d c.args.from c.args.to _ _ c.distance.result c.gap_of-gap.result c.minimum-rule.result (omega arith) (omega arith) c.distance.ensures c.gap_of-gap.ensures c.minimum-rule.ensures in
     record {
       is = c.put.ensures.is;
       lays = subst (λ (r : Rule g.row.L.Denot). Appends (r ∷ []) c.args.list.now c.args.count c.put.new.list c.put.result) e c.put.ensures.lays;

@@ -19,9 +19,9 @@ loop-mark-preserved-then-at-marks g c =
 pub loop-mark-preserved : goal.loop-mark-preserved
 loop-mark-preserved g c =
     let k = g.L.Length.kind in (
-      omega (arith, c.loop-mark.invariant.0, c.put-distance-end.ensures.is),
+      omega (arith, c.loop-mark.invariant.0, c.put_distance-end.ensures.is),
       ringing_more k (table_distance k c.args.table.now c.args.marks) c.args.marks c.args.leader c.args.list.now c.args.count c.loop-mark.mark c.loop-mark.first c.loop-mark.at c.loop-mark.list c.loop-mark.end c.loop-mark-test.true
-          c.put-distance-end.new.list c.put-distance-end.result c.if-not-tied.ensures c.if-at-marks.false c.put-distance-end.ensures.lays c.loop-mark.invariant.1,
+          c.put_distance-end.new.list c.put_distance-end.result c.if-not-tied.ensures c.if-at-marks.false c.put_distance-end.ensures.lays c.loop-mark.invariant.1,
     )
 
 pub returns-then-at-first : goal.returns-then-at-first
@@ -36,7 +36,7 @@ pub returns : goal.returns
 returns g c =
     let k = g.L.Length.kind in
     record {
-      most = omega (arith, c.loop-mark.invariant.0, c.loop-mark.auto.mark-end, c.requires.few, c.put-distance.ensures.is);
+      most = omega (arith, c.loop-mark.invariant.0, c.loop-mark.auto.mark-end, c.requires.few, c.put_distance.ensures.is);
       lays = ringing_last k (table_distance k c.args.table.now c.args.marks) c.args.marks c.args.leader c.args.list.now c.args.count c.loop-mark.mark c.loop-mark.first c.loop-mark.at c.loop-mark.list c.loop-mark.end c.loop-mark-test.false
-          c.put-distance.new.list c.put-distance.result c.if-at-first.false c.put-distance.ensures.lays c.loop-mark.invariant.1;
+          c.put_distance.new.list c.put_distance.result c.if-at-first.false c.put_distance.ensures.lays c.loop-mark.invariant.1;
     }

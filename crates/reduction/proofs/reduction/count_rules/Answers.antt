@@ -4,4 +4,4 @@ use Rattle.reduction.proofs.Reducing.{laid_count}
 use Rattle.reduction.proofs.reduction.count_rules.Goals as goal
 
 pub returns : goal.returns
-returns g c = laid_count (reduced g.L.Length.kind c.args.marks c.args.table.now) [] _ c.put-rules.result c.put-rules.ensures
+returns g c = laid_count (reduced g.L.Length.kind c.args.marks c.args.table.now) [] _ c.put_rules.result c.put_rules.ensures

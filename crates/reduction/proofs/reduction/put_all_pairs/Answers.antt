@@ -13,9 +13,9 @@ loop-mark-preserved-then-not-notes-mark g c =
 
 pub loop-mark-preserved : goal.loop-mark-preserved
 loop-mark-preserved g c = (
-  omega (arith, c.loop-mark.invariant.0, c.put-pairs-end.ensures.most),
+  omega (arith, c.loop-mark.invariant.0, c.put_pairs-end.ensures.most),
   joined_more g.L.Length.kind c.args.marks c.args.table.now (pairs_from g.L.Length.kind (table_distance g.L.Length.kind c.args.table.now c.args.marks) c.args.marks) c.loop-mark.mark c.args.list.now c.args.count c.loop-mark.list c.loop-mark.end
-      c.put-pairs-end.new.list c.put-pairs-end.result c.loop-mark-test.true (sym (c.requires.noted c.loop-mark.mark c.loop-mark-test.true) ∙ c.if-not-notes-mark.false) c.put-pairs-end.ensures.lays c.loop-mark.invariant.1,
+      c.put_pairs-end.new.list c.put_pairs-end.result c.loop-mark-test.true (sym (c.requires.noted c.loop-mark.mark c.loop-mark-test.true) ∙ c.if-not-notes-mark.false) c.put_pairs-end.ensures.lays c.loop-mark.invariant.1,
 )
 
 pub returns : goal.returns

@@ -16,8 +16,8 @@ returns-in-Compact g c =
       lent = refl;
       book = sym (ap (book_after k cell.marks records (book cell)) c.in-Compact.is);
       memory = sym (ap (memory_after k cell.marks (memory cell) (book cell)) c.in-Compact.is);
-      performs = packs k g.S.Source.listing cell.marks records (book cell) t c.in-Compact.is c.deref-mut.result.now c.compact-answer.new.row
-          c.deref-mut-in-Compact.result.now c.compact-answer.new.cycle c.compact-answer.result c.deref-mut.ensures.value c.deref-mut-in-Compact.ensures.value
+      performs = packs k g.S.Source.listing cell.marks records (book cell) t c.in-Compact.is c.deref_mut.result.now c.compact-answer.new.row
+          c.deref_mut-in-Compact.result.now c.compact-answer.new.cycle c.compact-answer.result c.deref_mut.ensures.value c.deref_mut-in-Compact.ensures.value
           c.compact-answer.auto.row c.compact-answer.auto.cycle c.compact-answer.ensures.does c.compact-answer.ensures.right;
     }
 
@@ -32,7 +32,7 @@ returns-in-Reduce g c =
       lent = refl;
       book = sym (ap (book_after k cell.marks records (book cell)) c.in-Reduce.is);
       memory = sym (ap (memory_after k cell.marks (memory cell) (book cell)) c.in-Reduce.is);
-      performs = reduces k g.S.Source.listing cell.marks records (book cell) t c.in-Reduce.is c.deref-mut-in-Reduce.result.now c.reduce-answer.new.table
-          c.deref-mut-in-Reduce-2.result.now c.reduce-answer.new.list c.reduce-answer.result c.deref-mut-in-Reduce.ensures.value c.deref-mut-in-Reduce-2.ensures.value
+      performs = reduces k g.S.Source.listing cell.marks records (book cell) t c.in-Reduce.is c.deref_mut-in-Reduce.result.now c.reduce-answer.new.table
+          c.deref_mut-in-Reduce-2.result.now c.reduce-answer.new.list c.reduce-answer.result c.deref_mut-in-Reduce.ensures.value c.deref_mut-in-Reduce-2.ensures.value
           c.reduce-answer.auto.table c.reduce-answer.auto.list c.reduce-answer.ensures.does c.reduce-answer.ensures.right;
     }

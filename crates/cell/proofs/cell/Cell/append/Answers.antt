@@ -3,11 +3,11 @@ use Rattle.std.proofs.lemmas.List.{length-set, take_more_set}
 use Rattle.cell.specs.Book.{sound}
 use Rattle.cell.proofs.cell.Cell.append.Goals as goal
 
-pub offset-bounds-self-at : goal.offset-bounds-self-at
-offset-bounds-self-at g c = let inside : c.args.self.now.filled < length c.args.self.now.records.now = omega arith in search rules
+pub offset_bounds-self-at : goal.offset_bounds-self-at
+offset_bounds-self-at g c = let inside : c.args.self.now.filled < length c.args.self.now.records.now = omega arith in search rules
 
-pub invariant-of-self : goal.invariant-of-self
-invariant-of-self g c =
+pub invariant_of-self : goal.invariant_of-self
+invariant_of-self g c =
     let mem = c.args.self.now.records.now in
     let at = c.args.self.now.filled in (
       c.args.self.now.some,

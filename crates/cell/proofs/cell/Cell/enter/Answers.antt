@@ -13,40 +13,40 @@ returns-then-tag-eq0 g c =
     refused g.L.Length.kind told c.args.tag c.args.rule _
     (zero_tag g.L.Length.kind told.marks (used (length (memory told))) (book told) c.args.tag c.args.rule c.if-tag-eq0.true) (λ e. absurd (no_tag_not_full e))
 
-pub returns-in-err-check : goal.returns-in-err-check
-returns-in-err-check g c =
+pub returns-in_err-check : goal.returns-in_err-check
+returns-in_err-check g c =
     let told = c.args.self.now in
-    let p = err_from_is_err_and c.from-residual.result c.from-residual.ensures.1 in
+    let p = err_from_is_err_and c.from_residual.result c.from_residual.ensures.1 in
     rw (p.1, p.2)
     (refused g.L.Length.kind told c.args.tag c.args.rule _
-    (unfit g.L.Length.kind told.marks (used (length (memory told))) (book told) c.args.tag c.args.rule _ c.if-tag-eq0.false (sym c.in-err-check.ensures)) (λ e. absurd (unfit_not_full _ e)))
+    (unfit g.L.Length.kind told.marks (used (length (memory told))) (book told) c.args.tag c.args.rule _ c.if-tag-eq0.false (sym c.in_err-check.ensures)) (λ e. absurd (unfit_not_full _ e)))
 
-pub returns-in-err-admit : goal.returns-in-err-admit
-returns-in-err-admit g c =
+pub returns-in_err-admit : goal.returns-in_err-admit
+returns-in_err-admit g c =
     let told = c.args.self.now in
-    let p = err_from_is_err_and c.from-residual-in-err-admit.result c.from-residual-in-err-admit.ensures.1 in
+    let p = err_from_is_err_and c.from_residual-in_err-admit.result c.from_residual-in_err-admit.ensures.1 in
     rw (p.1, p.2)
-    (turned_away g.L.Length.kind told c.args.tag c.args.rule c.if-tag-eq0.false (sym c.in-ok-check.ensures) c.is-some-known.result (leb c.used.result told.filled)
-    (c.is-some-known.ensures ∙ tag_known (book told) c.args.tag c.place-of.result c.place-of.ensures) (ap (λ cap. leb cap told.filled) c.used.ensures) _ (sym c.in-err-admit.ensures))
+    (turned_away g.L.Length.kind told c.args.tag c.args.rule c.if-tag-eq0.false (sym c.in_ok-check.ensures) c.is_some-known.result (leb c.used.result told.filled)
+    (c.is_some-known.ensures ∙ tag_known (book told) c.args.tag c.place_of.result c.place_of.ensures) (ap (λ cap. leb cap told.filled) c.used.ensures) _ (sym c.in_err-admit.ensures))
 
 pub append-requires : goal.append-requires
 append-requires g c =
     let told = c.args.self.now in
-    let known : c.is-some-known.result ≡ has_tag (book told) c.args.tag = c.is-some-known.ensures ∙ tag_known (book told) c.args.tag c.place-of.result c.place-of.ensures in
-    let new = sym known ∙ admitted_new c.is-some-known.result (leb c.used.result told.filled) (sym c.in-ok-admit.ensures) in
-    let free = admitted_free c.is-some-known.result (leb c.used.result told.filled) (sym c.in-ok-admit.ensures) in (
+    let known : c.is_some-known.result ≡ has_tag (book told) c.args.tag = c.is_some-known.ensures ∙ tag_known (book told) c.args.tag c.place_of.result c.place_of.ensures in
+    let new = sym known ∙ admitted_new c.is_some-known.result (leb c.used.result told.filled) (sym c.in_ok-admit.ensures) in
+    let free = admitted_free c.is_some-known.result (leb c.used.result told.filled) (sym c.in_ok-admit.ensures) in (
       omega (arith, c.used.ensures, leb-false c.used.result told.filled free),
       sound_push told.marks (book told) (record { tag = c.args.tag; rule = c.args.rule }) told.sound c.if-tag-eq0.false
-          (fits_joins g.L.Length.kind told.marks c.args.rule (sym c.in-ok-check.ensures)) new,
+          (fits_joins g.L.Length.kind told.marks c.args.rule (sym c.in_ok-check.ensures)) new,
     )
 
 pub returns : goal.returns
 returns g c =
     let told = c.args.self.now in
-    let known : c.is-some-known.result ≡ has_tag (book told) c.args.tag = c.is-some-known.ensures ∙ tag_known (book told) c.args.tag c.place-of.result c.place-of.ensures in
-    let new = sym known ∙ admitted_new c.is-some-known.result (leb c.used.result told.filled) (sym c.in-ok-admit.ensures) in
-    let free = admitted_free c.is-some-known.result (leb c.used.result told.filled) (sym c.in-ok-admit.ensures) in
+    let known : c.is_some-known.result ≡ has_tag (book told) c.args.tag = c.is_some-known.ensures ∙ tag_known (book told) c.args.tag c.place_of.result c.place_of.ensures in
+    let new = sym known ∙ admitted_new c.is_some-known.result (leb c.used.result told.filled) (sym c.in_ok-admit.ensures) in
+    let free = admitted_free c.is_some-known.result (leb c.used.result told.filled) (sym c.in_ok-admit.ensures) in
     let room : told.filled < used (length (memory told)) = omega (arith, c.used.ensures, leb-false c.used.result told.filled free) in
     appended g.L.Length.kind told c.append.new.self c.args.tag c.args.rule
-    (accepted g.L.Length.kind told.marks (used (length (memory told))) (book told) c.args.tag c.args.rule c.if-tag-eq0.false (sym c.in-ok-check.ensures) new (omega (arith, length_book told)))
+    (accepted g.L.Length.kind told.marks (used (length (memory told))) (book told) c.args.tag c.args.rule c.if-tag-eq0.false (sym c.in_ok-check.ensures) new (omega (arith, length_book told)))
     new room c.append.ensures

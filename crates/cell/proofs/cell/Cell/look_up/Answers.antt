@@ -9,6 +9,6 @@ pub returns : goal.returns
 returns g c =
     let told = c.args.self.now in
     record {
-      value = c.rule-under.ensures;
-      zero = λ e. c.rule-under.ensures ∙ ap (look_up (book told)) e ∙ no_rule (book told) 0 (no_tag_zero told.marks (book told) told.sound);
+      value = c.rule_under.ensures;
+      zero = λ e. c.rule_under.ensures ∙ ap (look_up (book told)) e ∙ no_rule (book told) 0 (no_tag_zero told.marks (book told) told.sound);
     }

@@ -8,18 +8,18 @@ use Rattle.cell.proofs.ForceFits.{force_sound}
 use Rattle.cell.proofs.Reductions.{reduces}
 use Rattle.cell.proofs.cell.Cell.reduce_in.Goals as goal
 
-pub reduce-first-requires : goal.reduce-first-requires
-reduce-first-requires g c =
+pub reduce_first-requires : goal.reduce_first-requires
+reduce_first-requires g c =
     let k = g.L.Length.kind in
     let told = c.args.self.now in
     let places = g.S.Source.listing c.args.source.now in
     let flat = c.gather.new.flat in
-    let gathered = c.in-ok-count.ensures in
+    let gathered = c.in_ok-count.ensures in
     let counted = ap length gathered.2 in
     record {
       counted = omega (arith, gathered.1, c.requires, c.gather.auto.flat);
       sound = subst (λ (rules : List (Numbered _)). sound k told.marks rules ≡ true) (sym gathered.2)
-          (force_sound k told.marks g.met.L.Length.laws told.some told.few (book told) places gathered.0 (omega (arith, counted, length-take c.in-ok-count.count flat)));
+          (force_sound k told.marks g.met.L.Length.laws told.some told.few (book told) places gathered.0 (omega (arith, counted, length-take c.in_ok-count.count flat)));
       room = c.if-table-self.false;
     }
 
@@ -27,7 +27,7 @@ pub returns : goal.returns
 returns g c =
     let k = g.L.Length.kind in
     let told = c.args.self.now in
-    let gathered = c.in-ok-count.ensures in
+    let gathered = c.in_ok-count.ensures in
     reduces k told.marks (book told) (g.S.Source.listing c.args.source.now) c.args.table.now c.args.list.now gathered.0 c.if-table-self.false
-    c.reduce-first.result c.reduce-first.new.table c.reduce-first.new.list
-    (subst (λ (rules : List (Numbered _)). Sought k told.marks rules c.args.table.now c.args.list.now c.reduce-first.result c.reduce-first.new.table c.reduce-first.new.list) gathered.2 c.reduce-first.ensures)
+    c.reduce_first.result c.reduce_first.new.table c.reduce_first.new.list
+    (subst (λ (rules : List (Numbered _)). Sought k told.marks rules c.args.table.now c.args.list.now c.reduce_first.result c.reduce_first.new.table c.reduce_first.new.list) gathered.2 c.reduce_first.ensures)

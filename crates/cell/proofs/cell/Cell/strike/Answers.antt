@@ -5,14 +5,14 @@ use Rattle.cell.specs.Calls.{copied}
 use Rattle.cell.proofs.Striking.{copied_any, copied_itself, sound_front}
 use Rattle.cell.proofs.cell.Cell.strike.Goals as goal
 
-pub offset-bounds-self-last : goal.offset-bounds-self-last
-offset-bounds-self-last g c = let inside : c.args.self.now.filled - 1 < length c.args.self.now.records.now = omega (arith, c.args.self.now.room) in search rules
+pub offset_bounds-self-last : goal.offset_bounds-self-last
+offset_bounds-self-last g c = let inside : c.args.self.now.filled - 1 < length c.args.self.now.records.now = omega (arith, c.args.self.now.room) in search rules
 
-pub offset-bounds-self-place : goal.offset-bounds-self-place
-offset-bounds-self-place g c = let inside : c.args.place < length c.args.self.now.records.now = omega (arith, c.args.self.now.room) in search rules
+pub offset_bounds-self-place : goal.offset_bounds-self-place
+offset_bounds-self-place g c = let inside : c.args.place < length c.args.self.now.records.now = omega (arith, c.args.self.now.room) in search rules
 
-pub invariant-of-self : goal.invariant-of-self
-invariant-of-self g c =
+pub invariant_of-self : goal.invariant_of-self
+invariant_of-self g c =
     let told = c.args.self.now in
     let mem = told.records.now in
     let last : told.filled - 1 < told.filled = omega (arith, c.requires) in
@@ -32,8 +32,8 @@ invariant-of-self g c =
       ),
     )
 
-pub invariant-of-self-2 : goal.invariant-of-self-2
-invariant-of-self-2 g c =
+pub invariant_of-self-2 : goal.invariant_of-self-2
+invariant_of-self-2 g c =
     let told = c.args.self.now in
     let mem = told.records.now in
     let d = c.index-self-last.result in

@@ -20,7 +20,7 @@ pub returns-in-Cycle : goal.returns-in-Cycle
 returns-in-Cycle g c =
     let k = g.L.Length.kind in
     let flat = c.args.flat.now in
-    over_constrained k g.met.L.Length.laws c.args.marks c.in-Cycle.length (take c.args.count flat) c.args.row.now c.pack.new.row c.show-cycle.new.row c.args.cycle.now
-    c.show-cycle.new.list c.requires.sound c.requires.room.0
+    over_constrained k g.met.L.Length.laws c.args.marks c.in-Cycle.length (take c.args.count flat) c.args.row.now c.pack.new.row c.show_cycle.new.row c.args.cycle.now
+    c.show_cycle.new.list c.requires.sound c.requires.room.0
     (subst (λ (m : ℕ). PacksFrom k c.args.marks (take m flat) c.args.row.now OverConstrained c.pack.new.row) (sub-zero c.args.count) c.in-OverConstrained.ensures)
-    (subst (λ (m : ℕ). Shows k c.args.marks (take m flat) c.pack.new.row c.args.cycle.now (Cycle c.in-Cycle.length) c.show-cycle.new.row c.show-cycle.new.list) (sub-zero c.args.count) c.in-Cycle.ensures)
+    (subst (λ (m : ℕ). Shows k c.args.marks (take m flat) c.pack.new.row c.args.cycle.now (Cycle c.in-Cycle.length) c.show_cycle.new.row c.show_cycle.new.list) (sub-zero c.args.count) c.in-Cycle.ensures)
