@@ -2,7 +2,7 @@
 use Rattle.std.proofs.Common.{ℕ, ◌+◌, ◌-◌, ◌*◌, ◌%◌, ◌^◌, ◌<◌, ◌≤◌, max, arith}
 use native.Mathlib.Nat.{mod-le}
 use prog.Memory.{size, align, up}
-use prog.RawLaws.{size_raw, align_raw}
+use prog.RawLaws.{size-raw, align-raw}
 use denote.Param.{layout}
 use denote.RattleType.{RattleType}
 use Rattle.lengths.specs.Stored.{stored_bytes}
@@ -19,8 +19,8 @@ pub table_fits : (T : RattleType) → stored_bytes T ≤ 4096 → 12543 * rule_b
 table_fits T few =
     let a = align (layout T) in
     let s = size (layout T) in
-    let p = size_raw (layout T) in
-    let q = align_raw (layout T) in
+    let p = size-raw (layout T) in
+    let q = align-raw (layout T) in
     let b = max 2 (max 2 (max a 1)) in
     let u = up_bound a 4 in
     let v = up_bound b (up a 4 + s) in

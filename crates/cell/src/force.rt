@@ -32,8 +32,8 @@ fn push<L: Copy>(flat: &mut [Numbered<L>], count: usize, new: Numbered<L>) -> us
 
 // Writes the boundary rules of so many marks to the front.
 pub(crate) fn gather_boundary<L: Length>(marks: usize, flat: &mut [Numbered<L>]) -> usize
-    requires le_marks { (1 ≤ marks) × (marks ≤ 256) }
-    requires marks_in_bounds { marks ≤ length flat.old }
+    requires marks { (1 ≤ marks) × (marks ≤ 256) }
+    requires room { marks ≤ length flat.old }
     ensures count { result + 1 ≡ marks }
     ensures rules { take result flat.new ≡ boundary_rules L.kind marks }
 {
@@ -54,8 +54,8 @@ pub(crate) fn gather_book<L: Length>(
     start: usize,
     flat: &mut [Numbered<L>],
 ) -> usize
-    requires filled_in_bounds { filled ≤ length records.now }
-    requires filled_in_bounds_2 { start + filled ≤ length flat.old }
+    requires filled { filled ≤ length records.now }
+    requires room { start + filled ≤ length flat.old }
     ensures count { result ≤ start + filled }
     ensures rules { take result flat.new ≡ take start flat.old ++ book_rules L.kind marks (take filled records.now) }
 {
@@ -79,8 +79,8 @@ pub(crate) fn gather_source<L: Length, S: Source<L>>(
     start: usize,
     flat: &mut [Numbered<L>],
 ) -> Result<usize, SourceFault>
-    requires places_value { (places ≡ length (S.Source.listing source.now)) × (places ≤ 8192) }
-    requires places_in_bounds { start + places ≤ length flat.old }
+    requires places { (places ≡ length (S.Source.listing source.now)) × (places ≤ 8192) }
+    requires room { start + places ≤ length flat.old }
     ensures { GathersSource L.kind marks (S.Source.listing source.now) start flat.old result flat.new }
 {
     let mut count = start;

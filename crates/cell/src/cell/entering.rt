@@ -27,8 +27,8 @@ fn admit(known: bool, full: bool) -> Result<(), EntryFault>
 impl<'m, L: Copy> Cell<'m, L> {
     // Writes the next record.
     fn append(&mut self, new: Record<L>)
-        requires filled_bound { self.old.filled < usable (length (memory self.old)) }
-        requires value { sound self.old.marks (book self.old ++ new ∷ []) ≡ true }
+        requires room { self.old.filled < usable (length (memory self.old)) }
+        requires sound { sound self.old.marks (book self.old ++ new ∷ []) ≡ true }
         ensures { Appends self.old new self.new }
     {
         let at = self.filled;

@@ -47,7 +47,7 @@ returns g c =
     let cell = c.loop-edit.cell in
     let inv = c.loop-edit.invariant in
     -- the records come back as the cell left them, since it worked on them alone
-    let back = c.records·1.given in
+    let back = c.records-1.given in
     let same : back.0 ≡ memory cell = back.1.1 (sym c.new-cell.ensures.lent ∙ sym inv.0) in
     let done = c.loop-edit-test.false in
     let passed = c.new-cell.ensures.memory_is in

@@ -9,13 +9,10 @@ offset_bounds-self-at g c = let inside : c.args.self.now.filled < length c.args.
 pub invariant_of-self : goal.invariant_of-self
 invariant_of-self g c =
     let mem = c.args.self.now.records.now in
-    let at = c.args.self.now.filled in (
-      c.args.self.now.some,
-      (
-        c.args.self.now.few,
-        (
-          omega (arith, length-set mem at c.args.new),
-          (ap (sound c.args.self.now.marks) (take_more_set mem at c.args.new (omega arith)) ∙ c.requires.1, tt),
-        ),
-      ),
-    )
+    let at = c.args.self.now.filled in
+    record {
+      some = c.args.self.now.some;
+      few = c.args.self.now.few;
+      room = omega (arith, length-set mem at c.args.new);
+      sound = ap (sound c.args.self.now.marks) (take_more_set mem at c.args.new (omega arith)) ∙ c.requires.sound;
+    }

@@ -3,8 +3,8 @@ use Rattle.cell.proofs.NoFindings.{no_compaction_finding}
 use Rattle.cell.proofs.Tables.{table_fits}
 use Rattle.cell.proofs.cell.Cell.compact.Goals as goal
 
-pub whole-as_slice·compact_in : goal.whole-as_slice·compact_in
-whole-as_slice·compact_in g c = table_fits g.row.L c.stored.ensures
+pub whole_as_slice-compact_in : goal.whole_as_slice-compact_in
+whole_as_slice-compact_in g c = table_fits g.row.L c.stored.ensures
 
 pub returns : goal.returns
 returns g c =

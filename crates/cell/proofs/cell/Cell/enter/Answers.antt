@@ -34,11 +34,13 @@ append-requires g c =
     let told = c.args.self.now in
     let known : c.is_some-known.result ≡ has_tag (book told) c.args.tag = c.is_some-known.ensures ∙ tag_known (book told) c.args.tag c.place_of.result c.place_of.ensures in
     let new = sym known ∙ admitted_new c.is_some-known.result (leb c.used.result told.filled) (sym c.in_ok-admit.ensures) in
-    let free = admitted_free c.is_some-known.result (leb c.used.result told.filled) (sym c.in_ok-admit.ensures) in (
-      omega (arith, c.used.ensures, leb-false c.used.result told.filled free),
-      sound_push told.marks (book told) (record { tag = c.args.tag; rule = c.args.rule }) told.sound c.if-tag-eq0.false
-          (fits_joins g.L.Length.kind told.marks c.args.rule (sym c.in_ok-check.ensures)) new,
-    )
+    let free = admitted_free c.is_some-known.result (leb c.used.result told.filled) (sym c.in_ok-admit.ensures) in
+    record {
+      room = omega (arith, c.used.ensures, leb-false c.used.result told.filled free);
+      sound =
+          sound_push told.marks (book told) (record { tag = c.args.tag; rule = c.args.rule }) told.sound c.if-tag-eq0.false
+          (fits_joins g.L.Length.kind told.marks c.args.rule (sym c.in_ok-check.ensures)) new;
+    }
 
 pub returns : goal.returns
 returns g c =

@@ -3,8 +3,8 @@ use Rattle.cell.proofs.NoFindings.{no_reduction_finding}
 use Rattle.cell.proofs.Tables.{table_fits}
 use Rattle.cell.proofs.cell.Cell.reduce.Goals as goal
 
-pub whole-as_slice·reduce_in : goal.whole-as_slice·reduce_in
-whole-as_slice·reduce_in g c = table_fits g.row.L c.stored.ensures
+pub whole_as_slice-reduce_in : goal.whole_as_slice-reduce_in
+whole_as_slice-reduce_in g c = table_fits g.row.L c.stored.ensures
 
 pub returns : goal.returns
 returns g c =
