@@ -16,7 +16,7 @@ loop-turn-preserved g c =
 
 pub returns : goal.returns
 returns g c =
-    let back = c.records·1.given in
+    let back = c.records-1.given in
     let same : back.0 ≡ memory c.loop-turn.cell = back.1.1 (sym c.new-cell.ensures.lent ∙ sym c.loop-turn.invariant.0) in
     let told = ends g.L.Length.kind g.S.Source.listing (cell_marks c.args.marks) c.new-cell.result c.loop-turn.cell c.args.turns.now c.loop-turn.turns c.loop-turn.turn-index
     c.loop-turn-test.false c.loop-turn.auto.turns c.loop-turn.invariant c.args.records.now c.new-cell.ensures.memory_is back.0 same in
