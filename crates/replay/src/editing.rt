@@ -5,14 +5,14 @@ use crate::written::Written;
 use boxes::figures::Figures;
 use cell::cell::Cell;
 use rules::rule::Rule;
-use std::fmt;
+use std::alloc::AllocError;
 
 pub(crate) fn enter<L: Written>(
     cell: &mut Cell<'_, L>,
     tag: u16,
     rule: Rule<L>,
     out: &mut String,
-) -> fmt::Result {
+) -> Result<(), AllocError> {
     match cell.enter(tag, rule) {
         Ok(()) => write!(out, "ok"),
         Err(fault) => say_number(out, fault.number()),
@@ -23,14 +23,18 @@ pub(crate) fn withdraw<L: Written>(
     cell: &mut Cell<'_, L>,
     tag: u16,
     out: &mut String,
-) -> fmt::Result {
+) -> Result<(), AllocError> {
     match cell.withdraw(tag) {
         Ok(()) => write!(out, "ok"),
         Err(fault) => say_number(out, fault.number()),
     }
 }
 
-pub(crate) fn look_up<L: Written>(cell: &Cell<'_, L>, tag: u16, out: &mut String) -> fmt::Result {
+pub(crate) fn look_up<L: Written>(
+    cell: &Cell<'_, L>,
+    tag: u16,
+    out: &mut String,
+) -> Result<(), AllocError> {
     match cell.look_up(tag) {
         Some(rule) => {
             write!(out, "rule ")?;
@@ -54,7 +58,7 @@ pub(crate) fn offer_box<L: Written, B: Second>(
     parts: &mut Parts<L, B>,
     figures: Figures,
     out: &mut String,
-) -> fmt::Result {
+) -> Result<(), AllocError> {
     match parts.second.offer(figures) {
         Some(Ok(())) => write!(out, "ok"),
         Some(Err(fault)) => say_number(out, fault.number()),

@@ -6,7 +6,6 @@ use cell::cell::Cell;
 use cell::record::Record;
 use rules::rule::Rule;
 use std::alloc::{AllocError, Global};
-use std::fmt;
 
 pub(crate) fn blank_records<L: Written>(
     heap: Global,
@@ -19,7 +18,10 @@ pub(crate) fn blank_records<L: Written>(
     vec![in heap; blank; records]
 }
 
-pub(crate) fn say_records<L: Written>(cell: &Cell<'_, L>, out: &mut String) -> fmt::Result {
+pub(crate) fn say_records<L: Written>(
+    cell: &Cell<'_, L>,
+    out: &mut String,
+) -> Result<(), AllocError> {
     write!(out, "records")?;
     for place in 0..RECORD_LIMIT {
         let Some(record) = cell.record(place) else {

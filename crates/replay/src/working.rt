@@ -4,15 +4,14 @@ use crate::written::Written;
 use cell::cell::Cell;
 use rules::rule::Rule;
 use rules::source::Source;
-use std::alloc::Global;
-use std::fmt;
+use std::alloc::{AllocError, Global};
 
 pub(crate) fn try_row<L: Written, S: Source<L>>(
     cell: &Cell<'_, L>,
     source: &S,
     row: &[L],
     out: &mut String,
-) -> fmt::Result {
+) -> Result<(), AllocError> {
     match cell.try_row(source, row) {
         Ok(number) => write!(out, "answer {number}"),
         Err(fault) => say_refusal(out, fault.refusal()),

@@ -4,12 +4,12 @@ use lengths::grid::Grid;
 use lengths::length::Length;
 use lengths::stored::Stored;
 use lengths::strict::Strict;
-use std::fmt;
+use std::alloc::AllocError;
 
 pub(crate) trait Written: Length + Stored + Clone {
     fn read(word: &str) -> Option<Self>;
 
-    fn write(self, out: &mut String) -> fmt::Result;
+    fn write(self, out: &mut String) -> Result<(), AllocError>;
 
     // What fills the memory that a call is lent.
     fn seventy_seven() -> Self;
@@ -22,7 +22,7 @@ impl Written for Grid {
         })
     }
 
-    fn write(self, out: &mut String) -> fmt::Result {
+    fn write(self, out: &mut String) -> Result<(), AllocError> {
         let steps = self.steps;
         write!(out, "{steps}")
     }
@@ -41,7 +41,7 @@ impl Written for Strict {
         })
     }
 
-    fn write(self, out: &mut String) -> fmt::Result {
+    fn write(self, out: &mut String) -> Result<(), AllocError> {
         let steps = self.steps;
         let least = self.least;
         write!(out, "{steps},{least}")
