@@ -1,5 +1,5 @@
 -- Which figures make a box.
-use Rattle.std.specs.Prelude.{ℕ, cond, not, Ok, Err, Result, int_lt, nat_lt}
+use Rattle.std.specs.Prelude.{cond, not, Ok, Err, Result, int_lt, nat_lt}
 use Rattle.boxes.specs.declared.fault.BoxFault.{BoxFault}
 use Rattle.boxes.specs.declared.fault.BoxFault.TheVariants.{LeftNotBelowRight, BottomNotBelowTop, NoSuchLayer}
 use Rattle.boxes.specs.declared.figures.Figures.{Figures}

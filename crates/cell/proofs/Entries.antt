@@ -1,20 +1,20 @@
 -- What an entry answers, and what it leaves.
-use Rattle.std.proofs.Common.{◌≡◌, ℕ, ◌+◌, ◌<◌, ◌≤◌, Bool, true, false, cond, eqb, leb, List, [], ◌∷◌, ◌++◌, length, take, set, is_some, is_ok, Some, None, Ok, Err, Option, Result, sym, refl, ap, ◌∙◌, subst, arith, MatchOption}
+use Rattle.std.proofs.Common.{◌≡◌, ℕ, ◌+◌, ◌<◌, Bool, true, false, cond, eqb, leb, List, [], ◌∷◌, ◌++◌, length, take, is_some, is_ok, Some, None, Ok, Err, Option, Result, sym, refl, ap, ◌∙◌, subst, arith, MatchOption}
 use Rattle.std.proofs.lemmas.List.{length-take, take_more_set}
 use Rattle.std.proofs.lemmas.Bool.{cond-true, cond-false, eq-eqb, ne_eqb, leb-true, lt-leb, false≢true}
 use Rattle.lengths.specs.Kind.{Kind}
 use Rattle.rules.specs.Rule.{rule_check}
 use Rattle.rules.specs.declared.fault.RuleFault.{RuleFault}
 use Rattle.rules.specs.declared.rule.Rule.{Rule}
-use Rattle.cell.specs.Book.{has_tag, joins, look_up, sound, used, FoundAt, Once}
-use Rattle.cell.specs.Calls.{admission, entered, entry_check, unfit_or}
+use Rattle.cell.specs.Book.{has_tag, joins, look_up, used, FoundAt, Once}
+use Rattle.cell.specs.Calls.{admission, entry_check, unfit_or}
 use Rattle.cell.specs.Memory.{book, memory, Appends, Enters}
 use Rattle.cell.specs.declared.cell.Cell.{Cell}
 use Rattle.faults.specs.declared.fault.EntryFault.{EntryFault}
-use Rattle.faults.specs.declared.fault.EntryFault.TheVariants.{Full, NoTag, TagInForce, Unfit}
+use Rattle.faults.specs.declared.fault.EntryFault.TheVariants.{Full, NoTag, Unfit}
 use Rattle.cell.specs.declared.record.Record.{Record}
 use Rattle.cell.proofs.Tags.{found_has}
-use Rattle.cell.proofs.Sound.{look_up_others, look_up_push, sound_push, sound_to}
+use Rattle.cell.proofs.Sound.{look_up_others, look_up_push, sound_to}
 
 module _ {L : Type 0} (k : Kind L) (n cap : ℕ) (book : List (Record L)) (tag : ℕ) (rule : Rule L) (tagged : tag ≡ 0 → ⊥) (fits : rule_check k n rule ≡ Ok tt) where
   past_rule : entry_check k n cap book tag rule ≡ admission (has_tag book tag) (leb cap (length book))

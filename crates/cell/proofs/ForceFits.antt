@@ -1,11 +1,11 @@
 -- The rules in force fit the cell, and have numbers above 0.
-use Rattle.std.proofs.Common.{◌≡◌, ℕ, zero, suc, ◌+◌, ◌-◌, ◌<◌, ◌≤◌, Bool, true, false, cond, ◌&&◌, leb, List, [], ◌∷◌, ◌++◌, length, get_or, is_ok, Some, None, Ok, Err, Option, Result, sym, refl, ap, ◌∙◌, arith}
+use Rattle.std.proofs.Common.{◌≡◌, ℕ, zero, suc, ◌+◌, ◌-◌, ◌<◌, ◌≤◌, Bool, true, false, cond, ◌&&◌, leb, List, [], ◌∷◌, ◌++◌, length, get_or, is_ok, Some, None, Ok, Option, refl, ap, arith}
 use Rattle.std.specs.List.{range_with_len, AllByRecursion as All}
 use Rattle.std.proofs.ByRecursion.{All-append, All-map, All-weaker, has_append_left}
 use Rattle.std.proofs.lemmas.List.FromFn.{get_or-map-range_with_len, length-map-range_with_len}
 use Rattle.std.proofs.lemmas.Bool.{and_from, le-leb}
 use Rattle.lengths.specs.Kind.{Kind, Laws}
-use Rattle.rules.specs.Rule.{minimum, rule_check}
+use Rattle.rules.specs.Rule.{rule_check}
 use Rattle.rules.specs.declared.rule.Rule.{Rule}
 use Rattle.graph.proofs.Membership.{has_map}
 use Rattle.graph.specs.Packing.{Bordered}

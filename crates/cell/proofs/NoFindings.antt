@@ -1,7 +1,7 @@
 -- Nothing is found wrong with a compaction or a reduction that keeps its contract.
-use Rattle.std.proofs.Common.{◌≡◌, ℕ, ◌<◌, ◌≤◌, true, false, ◌⊎◌, List, ◌++◌, map, length, take, drop, Ok, Err, Option, Result, sym, refl, ap, ◌∙◌, subst, ⊎_elim, arith}
+use Rattle.std.proofs.Common.{◌≡◌, ℕ, List, ◌++◌, length, take, drop, Ok, Err, Option, Result, sym, ap, ◌∙◌, subst, ⊎_elim, arith}
 use lib.Seq.{take-append_seam}
-use Rattle.std.specs.List.{ContainsAt as Has, AllByRecursion as All}
+use Rattle.std.specs.List.{ContainsAt as Has}
 use Rattle.std.proofs.ByRecursion.{all-has, All-map}
 use Rattle.std.proofs.lemmas.List.{length-map}
 use Rattle.std.proofs.lemmas.Bool.{false≢true}
@@ -11,7 +11,7 @@ use Rattle.graph.specs.Cycles.{numbers}
 use Rattle.graph.specs.Listed.{plain}
 use Rattle.graph.specs.Packing.{Packed, Refuted}
 use Rattle.graph.specs.Rivals.{SamePlacements}
-use Rattle.graph.specs.Rows.{Keeps, Placement}
+use Rattle.graph.specs.Rows.{Keeps}
 use Rattle.graph.specs.declared.numbered.Numbered.{Numbered}
 use Rattle.graph.proofs.Membership.{all_from_has, has_map}
 use Rattle.reduction.specs.Listing.{reduced}

@@ -1,10 +1,10 @@
 -- A sound book, place by place: tags are not 0 and differ from one another, and rules join two marks.
-use Rattle.std.proofs.Common.{◌≡◌, ℕ, zero, suc, ◌+◌, ◌<◌, ◌≤◌, Bool, true, false, cond, not, ◌&&◌, eqb, ◌⊎◌, List, [], ◌∷◌, ◌++◌, length, get_or, take, Some, None, Option, sym, refl, ap, ◌∙◌, inl, inr, ⊎_elim, arith}
+use Rattle.std.proofs.Common.{◌≡◌, ℕ, zero, suc, ◌<◌, true, false, cond, not, ◌&&◌, eqb, List, [], ◌∷◌, ◌++◌, length, get_or, take, Some, None, sym, refl, ap, ◌∙◌, ⊎_elim, arith}
 use Rattle.std.proofs.lemmas.List.{get_or-take, get_or_default, length-take}
 use Rattle.std.proofs.lemmas.Bool.{cases_order, and_parts, and_from, not-true, not_from_false, eq-eqb, ne_eqb, eqb-false, or_from, or_parts, cond-true, cond-false}
 use Rattle.cell.specs.Book.{has_tag, look_up, joins, sound, FoundAt}
 use Rattle.cell.specs.declared.record.Record.{Record}
-use Rattle.cell.proofs.Tags.{has_tag_append, no_tag_at, no_tag_from, no_rule, found_rule}
+use Rattle.cell.proofs.Tags.{has_tag_append, no_tag_at, no_tag_from, found_rule}
 
 pub record Sound {L : Type 0} (n : ℕ) (book : List (Record L)) : Type 0 where
   pub tagged : (i : ℕ) (d : Record L) → i < length book → (get_or book i d).tag ≡ 0 → ⊥

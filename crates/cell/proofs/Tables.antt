@@ -1,5 +1,5 @@
 -- A table of numbered rules fits in memory where their lengths take few bytes.
-use Rattle.std.proofs.Common.{ℕ, ◌+◌, ◌-◌, ◌*◌, ◌%◌, ◌^◌, ◌<◌, ◌≤◌, max, arith}
+use Rattle.std.proofs.Common.{ℕ, ◌+◌, ◌-◌, ◌*◌, ◌%◌, ◌<◌, ◌≤◌, max, arith}
 use native.Mathlib.Nat.{mod-le}
 use prog.Memory.{size, align, up}
 use prog.RawLaws.{size-raw, align-raw}

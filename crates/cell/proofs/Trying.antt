@@ -6,7 +6,7 @@ use Rattle.lengths.specs.Kind.{Kind, Laws}
 use Rattle.rules.specs.declared.rule.Rule.{Rule}
 use Rattle.graph.specs.Trial.{answered, marks_below, smallest, triable, Tried}
 use Rattle.graph.specs.Rows.{position, row_limit, Row}
-use Rattle.cell.specs.Trial.{bad_mark, behind_source, is_zero, may_lie, trial_answer, tried, Tries}
+use Rattle.cell.specs.Trial.{bad_mark, behind_source, is_zero, may_lie, tried, Tries}
 use Rattle.cell.specs.Force.{in_force, source_check}
 use Rattle.faults.specs.declared.fault.TrialFault.{TrialFault}
 use Rattle.faults.specs.declared.fault.TrialFault.TheVariants.{ShortRow}

@@ -1,8 +1,8 @@
 -- What a withdrawal answers, and what it leaves.
-use Rattle.std.proofs.Common.{◌≡◌, ℕ, ◌+◌, ◌-◌, ◌<◌, ◌≤◌, true, false, cond, eqb, List, length, get_or, take, is_ok, Ok, Err, Result, sym, refl, ap, ◌∙◌, arith}
+use Rattle.std.proofs.Common.{◌≡◌, ℕ, ◌-◌, ◌<◌, true, false, cond, eqb, List, take, is_ok, Ok, Err, sym, refl, ap, ◌∙◌, arith}
 use Rattle.std.proofs.lemmas.Bool.{cond-true, cond-false, eq-eqb, ne_eqb, false≢true}
-use Rattle.cell.specs.Book.{has_tag, look_up, used, FoundAt}
-use Rattle.cell.specs.Calls.{copied, place_of, withdrawal_check, withdrawn}
+use Rattle.cell.specs.Book.{has_tag, look_up, FoundAt}
+use Rattle.cell.specs.Calls.{copied, place_of, withdrawal_check}
 use Rattle.cell.specs.Memory.{book, memory, Strikes, Withdraws}
 use Rattle.cell.specs.declared.cell.Cell.{Cell}
 use Rattle.faults.specs.declared.fault.WithdrawalFault.{WithdrawalFault}

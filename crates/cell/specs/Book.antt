@@ -1,5 +1,5 @@
 -- The book: the rules entered and not withdrawn, with their tags. It follows from the calls alone.
-use Rattle.std.specs.Prelude.{◌≡◌, ℕ, ◌<◌, min, Bool, true, false, cond, not, ◌&&◌, ◌||◌, List, [], ◌∷◌, ◌++◌, length, take, Some, None, Option, ◌==◌, ◌≢◌, nat_lt, slice_index_or}
+use Rattle.std.specs.Prelude.{◌≡◌, ℕ, ◌<◌, min, Bool, true, false, cond, not, ◌&&◌, ◌||◌, List, [], ◌∷◌, length, take, Some, None, Option, ◌==◌, ◌≢◌, nat_lt, slice_index_or}
 use Rattle.std.specs.List.{HoldsAt}
 use Rattle.rules.specs.declared.rule.Rule.{Rule}
 use Rattle.cell.specs.declared.record.Record.{Record}

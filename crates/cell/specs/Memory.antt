@@ -1,5 +1,5 @@
 -- What a cell holds, and what each call leaves in it.
-use Rattle.std.specs.Prelude.{◌≡◌, ℕ, ◌+◌, ◌-◌, true, cond, List, [], length, take, is_ok, Some, None, Err, Result, ◌≢◌, slice_set}
+use Rattle.std.specs.Prelude.{◌≡◌, ℕ, ◌+◌, ◌-◌, true, cond, List, length, take, is_ok, Some, None, Err, Result, ◌≢◌, slice_set}
 use Rattle.std.specs.Borrow.{MutBor}
 use Rattle.lengths.specs.Kind.{Kind}
 use Rattle.rules.specs.declared.rule.Rule.{Rule}

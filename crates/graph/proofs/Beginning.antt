@@ -1,12 +1,11 @@
 -- The table before the first midpoint, as it is filled.
-use Rattle.std.proofs.Common.{◌≡◌, ℕ, suc, ◌+◌, ◌*◌, ◌<◌, ◌≤◌, true, false, List, [], ◌∷◌, ◌++◌, length, get_or, drop, set, replicate, sym, refl, ap, ◌∙◌, add-one, arith}
+use Rattle.std.proofs.Common.{◌≡◌, ℕ, ◌+◌, ◌*◌, ◌<◌, ◌≤◌, true, false, List, [], ◌∷◌, ◌++◌, length, get_or, drop, set, replicate, sym, refl, ap, ◌∙◌, add-one}
 use Rattle.std.proofs.lemmas.List.{append_assoc, length-replicate, set_at, set-get_or, drop_more, replicate_more, get_or_read, at_drop_more, drop_all}
-use Rattle.std.proofs.lemmas.Bool.{cond-true, cond-false}
 use Rattle.lengths.specs.Kind.{Kind}
 use Rattle.rules.specs.declared.rule.Rule.{Rule}
 use Rattle.graph.specs.declared.numbered.Numbered.{Numbered}
 use Rattle.graph.specs.Distances.{table_entry}
-use Rattle.graph.specs.Filling.{filled, diagonal, no_less, none, raised, raised_all, begun}
+use Rattle.graph.specs.Filling.{filled, diagonal, raised, raised_all, begun}
 
 -- One more entry is filled.
 pub filled_more : {L : Type 0} (table now : List L) (i : ℕ) (x : L) → i < length table → now ≡ filled i x table → set now i x ≡ filled (i + 1) x table

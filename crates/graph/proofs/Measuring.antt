@@ -1,8 +1,8 @@
 -- From the rounds and the midpoints to the answers of the distances.
-use Rattle.std.proofs.Common.{◌≡◌, ℕ, ◌+◌, ◌-◌, ◌*◌, ◌<◌, ◌≤◌, true, false, leb, List, length, drop, replicate, sym, refl, ap, ◌∙◌, subst, arith}
+use Rattle.std.proofs.Common.{◌≡◌, ℕ, ◌+◌, ◌-◌, ◌*◌, ◌<◌, ◌≤◌, true, leb, List, length, drop, replicate, sym, ap, ◌∙◌, subst, arith}
 use Rattle.std.proofs.lemmas.Nat.{mul-le}
 use Rattle.std.proofs.lemmas.List.{length-replicate, get_or-replicate, drop-drop}
-use Rattle.std.proofs.lemmas.Bool.{and_parts, and_from, leb-true, le-leb}
+use Rattle.std.proofs.lemmas.Bool.{and_parts, and_from, le-leb}
 use Rattle.lengths.specs.Kind.{Kind, Laws}
 use Rattle.rules.specs.Rule.{gap_limit}
 use Rattle.graph.specs.declared.numbered.Numbered.{Numbered}
@@ -18,7 +18,7 @@ use Rattle.graph.specs.Positions.{cleared}
 use Rattle.graph.specs.Distances.{table_distance}
 use Rattle.graph.specs.Filling.{begun}
 use Rattle.graph.specs.Overs.{Overs}
-use Rattle.graph.specs.Distancing.{tabled, Measured, Distanced}
+use Rattle.graph.specs.Distancing.{tabled, Distanced}
 use Rattle.graph.proofs.Readiness.{sound_parts, sound_setting}
 use Rattle.graph.proofs.Clearing.{fresh_start, length_cleared, position_cleared, drop_cleared, cleared_same}
 use Rattle.graph.proofs.Cycles.{positive_cycle_no_row}

@@ -1,5 +1,5 @@
 -- A row that settled from zeros is at the longest path lengths from mark 0, where no rule lets a mark left of it.
-use Rattle.std.proofs.Common.{◌≡◌, ℕ, zero, suc, ◌+◌, ◌*◌, ◌<◌, ◌≤◌, Bool, true, false, ◌&&◌, leb, ◌⊎◌, List, [], ◌∷◌, ◌++◌, length, take, drop, replicate, sym, refl, ap, ◌∙◌, subst, inl, inr, ⊎_elim, arith}
+use Rattle.std.proofs.Common.{◌≡◌, ℕ, zero, suc, ◌*◌, ◌<◌, ◌≤◌, true, ◌&&◌, leb, List, ◌∷◌, length, take, drop, replicate, sym, refl, ap, ◌∙◌, subst, ⊎_elim, arith}
 use Rattle.std.specs.List.{ContainsAt as Has, AllByRecursion as All}
 use Rattle.std.proofs.ByRecursion.{all-has}
 use Rattle.std.proofs.lemmas.List.{length-replicate, take_at}
@@ -15,8 +15,8 @@ use Rattle.graph.specs.Cycles.{Shows, Written}
 use Rattle.graph.specs.declared.cycle.Shown.TheVariants.{Cycle}
 use Rattle.graph.specs.Listed.{plain}
 use Rattle.graph.specs.Outcome.{Settles}
-use Rattle.graph.specs.Packing.{packable, Bordered, PacksFrom, Packed, Refuted}
-use Rattle.graph.specs.Paths.{Leads, path_length, Longest, PositiveCycle}
+use Rattle.graph.specs.Packing.{Bordered, PacksFrom, Packed, Refuted}
+use Rattle.graph.specs.Paths.{Leads, path_length, Longest}
 use Rattle.graph.specs.Positions.{cleared, Positioned}
 use Rattle.graph.specs.Ready.{all_near, ready, sound, start_limit}
 use Rattle.graph.specs.Rounds.{most_raises, Reached, Setting}

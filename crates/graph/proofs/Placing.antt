@@ -1,14 +1,14 @@
 -- A row settled from zeros, moved so that mark 0 lies at zero, is a placement of small measures.
-use Rattle.std.proofs.Common.{◌≡◌, ℕ, ◌+◌, ◌*◌, ◌<◌, ◌≤◌, true, List, map, length, get_or, sym, refl, ap, ◌∙◌, subst, arith}
+use Rattle.std.proofs.Common.{◌≡◌, ℕ, ◌<◌, ◌≤◌, true, List, map, length, sym, ap, ◌∙◌, subst, arith}
 use Rattle.std.specs.List.{ContainsAt as Has, AllByRecursion as All}
 use Rattle.std.proofs.ByRecursion.{all-has}
 use Rattle.std.proofs.lemmas.List.{length-map, get_or-map}
 use Rattle.lengths.specs.Kind.{Kind, Laws}
-use Rattle.lengths.proofs.Algebra.{unit_left, at_most_zero_left, exchange_last, measure_difference}
+use Rattle.lengths.proofs.Algebra.{unit_left, at_most_zero_left, exchange_last}
 use Rattle.rules.specs.declared.rule.Rule.{Rule}
 use Rattle.rules.specs.Rule.{gap_limit}
 use Rattle.graph.specs.declared.numbered.Numbered.{Numbered}
-use Rattle.graph.specs.Rows.{row_limit, position, Keeps, Placement}
+use Rattle.graph.specs.Rows.{row_limit, position, Keeps}
 use Rattle.graph.specs.Paths.{path_length, Longest}
 use Rattle.graph.specs.Listed.{plain}
 use Rattle.graph.specs.Rounds.{Setting}

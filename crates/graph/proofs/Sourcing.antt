@@ -1,9 +1,9 @@
 -- What the table before the first midpoint holds: zeros, gaps and nothing else.
-use Rattle.std.proofs.Common.{◌≡◌, ℕ, zero, suc, ◌+◌, ◌*◌, ◌/◌, ◌%◌, ◌<◌, ◌≤◌, true, ◌≢◌, ◌⊎◌, List, [], ◌∷◌, ◌++◌, length, get_or, drop, set, replicate, Some, None, Option, sym, refl, ap, ◌∙◌, subst, inl, inr, ⊎_elim, arith}
+use Rattle.std.proofs.Common.{◌≡◌, ℕ, zero, suc, ◌+◌, ◌*◌, ◌/◌, ◌%◌, ◌<◌, ◌≤◌, true, ◌≢◌, ◌⊎◌, List, [], ◌∷◌, length, get_or, drop, set, replicate, Some, None, sym, refl, ap, ◌∙◌, subst, inl, inr, ⊎_elim, arith}
 use Rattle.std.specs.List.{ContainsAt as Has, AllByRecursion as All}
 use Rattle.std.proofs.lemmas.Nat.{mul-add-lt, div-mul-add, mod-mul-add}
 use Rattle.std.proofs.ByRecursion.{all-has, all_has_itself}
-use Rattle.std.proofs.lemmas.List.{length-append, length-drop, length-replicate, length-set, get_or_append_left, get_or-replicate, get_or-set_same, get_or-set_other, drop_at, drop-set-lt}
+use Rattle.std.proofs.lemmas.List.{length-append, length-replicate, length-set, get_or_append_left, get_or-replicate, get_or-set_same, get_or-set_other, drop_at, drop-set-lt}
 use Rattle.std.proofs.lemmas.Bool.{both_ways, cases_eq}
 use Rattle.lengths.specs.Kind.{Kind, Laws, far_measure, near}
 use Rattle.lengths.proofs.Algebra.{reflexive, larger_cases, larger_first, larger_second}

@@ -1,6 +1,5 @@
 -- The kind of grid lengths: sums and opposites stop at the ends of the 64-bit range.
-use Rattle.std.specs.Prelude.{ℕ, Bool, not, ℤ, pos, ◌+ℤ◌, neg_ℤ, int_le, unsigned_abs}
-use Rattle.std.specs.Int.Signed.{lt_z}
+use Rattle.std.specs.Prelude.{ℤ, pos, ◌+ℤ◌, neg_ℤ, int_le, unsigned_abs}
 use Rattle.std.specs.Int.{saturate_to_bits}
 use Rattle.lengths.specs.Kind.{Kind}
 use Rattle.lengths.specs.declared.grid.Grid.{Grid}

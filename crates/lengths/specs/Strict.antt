@@ -1,5 +1,5 @@
 -- The kind of strict lengths: they add part by part, and compare by grid steps, then by least steps.
-use Rattle.std.specs.Prelude.{ℕ, max, Bool, ◌&&◌, ◌||◌, ℤ, pos, ◌+ℤ◌, neg_ℤ, int_le, int_lt, unsigned_abs}
+use Rattle.std.specs.Prelude.{max, ◌&&◌, ◌||◌, ℤ, pos, ◌+ℤ◌, neg_ℤ, int_le, int_lt, unsigned_abs}
 use Rattle.std.specs.Int.{saturate_to_bits}
 use Rattle.lengths.specs.Kind.{Kind}
 use Rattle.lengths.specs.declared.strict.Strict.{Strict}

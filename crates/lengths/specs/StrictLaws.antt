@@ -1,6 +1,6 @@
 -- The laws of strict lengths: sums and opposites go part by part, so each part is a grid length; the order is lexicographic.
-use Rattle.std.specs.Prelude.{◌≡◌, ℕ, ◌+◌, ◌≤◌, Bool, true, false, ◌&&◌, ◌||◌, ◌⊎◌, ℤ, pos, ◌+ℤ◌, neg_ℤ, ◌≤ℤ◌, ◌<ℤ◌, int_le, int_lt, unsigned_abs}
-use Rattle.std.proofs.Common.{ap, ap₂, inl, inr, arith, rules}
+use Rattle.std.specs.Prelude.{◌≡◌, ◌+◌, ◌≤◌, true, ◌&&◌, ◌||◌, ℤ, ◌+ℤ◌, int_le, int_lt, unsigned_abs}
+use Rattle.std.proofs.Common.{ap, ap₂, arith, rules}
 use Rattle.std.specs.Int.{saturate_to_bits}
 use Rattle.std.proofs.lemmas.Int.{ints}
 use Rattle.lengths.specs.Kind.{Laws, reach}

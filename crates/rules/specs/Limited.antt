@@ -1,5 +1,5 @@
 -- Limited places keep the law of a source: how many there are, and what each tells.
-use Rattle.std.specs.Prelude.{◌≡◌, ℕ, ◌<◌, ◌≤◌, min, List, length, get_or, replicate, Some, None, Option, nat_le, slice_index_or, refl}
+use Rattle.std.specs.Prelude.{◌≡◌, ℕ, ◌<◌, ◌≤◌, min, List, length, get_or, replicate, None, Option, nat_le, slice_index_or, refl}
 use Rattle.std.proofs.Common.{ap, ◌∙◌, arith}
 use Rattle.std.proofs.Math.Logic.{⊎_elim}
 use Rattle.std.proofs.lemmas.List.{length-replicate, get_or-replicate, get_or_past}

@@ -1,5 +1,5 @@
 -- Rules between marks, and which of them fit a cell.
-use Rattle.std.specs.Prelude.{ℕ, Bool, cond, not, ◌&&◌, Ok, Err, Result, ◌==◌, nat_lt}
+use Rattle.std.specs.Prelude.{ℕ, cond, not, ◌&&◌, Ok, Err, Result, ◌==◌, nat_lt}
 use Rattle.lengths.specs.Kind.{Kind}
 use Rattle.rules.specs.declared.fault.RuleFault.{RuleFault}
 use Rattle.rules.specs.declared.fault.RuleFault.TheVariants.{NoSuchMark, SameMark, GapTooLarge}

@@ -1,5 +1,5 @@
 -- What every source of rules keeps, and the places of the sources delivered.
-use Rattle.std.specs.Prelude.{◌≡◌, ℕ, ◌+◌, ◌≤◌, cond, List, ◌++◌, map, length, replicate, Some, None, Option, nat_le}
+use Rattle.std.specs.Prelude.{◌≡◌, ℕ, ◌≤◌, cond, List, ◌++◌, map, length, replicate, Some, None, Option, nat_le}
 
 -- The most places of a source that tells anything.
 abbrev pub place_limit : ℕ

@@ -1,5 +1,5 @@
 -- A turn that packs or reduces answers and leaves what its call does.
-use Rattle.std.proofs.Common.{◌≡◌, ℕ, List, length, vec_items, vec_len, Option, Result, Vec, sym, refl, ap, ◌∙◌, subst}
+use Rattle.std.proofs.Common.{◌≡◌, ℕ, List, length, vec_items, Option, Result, Vec, sym, refl, ap, ◌∙◌, subst}
 use Rattle.std.specs.Vec.{with_items}
 use Rattle.std.proofs.lemmas.List.{with_items_is}
 use Rattle.lengths.specs.Kind.{Kind}

@@ -14,7 +14,6 @@ use Rattle.cell.specs.Reduction.{Reduces}
 use Rattle.cell.specs.Trial.{Tries}
 use Rattle.cell.specs.declared.record.Record.{Record}
 use Rattle.run.specs.Course.{book_after}
-use Rattle.run.specs.declared.turn.Answer.{Answer}
 use Rattle.run.specs.declared.turn.Answer.TheVariants.{Compacted, Entered, Found, Reduced, Tried, Withdrawn}
 use Rattle.run.specs.declared.turn.Call.{Call}
 use Rattle.run.specs.declared.turn.Call.TheVariants.{Compact, Enter, LookUp, Reduce, Try, Withdraw}

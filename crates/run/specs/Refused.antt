@@ -1,5 +1,5 @@
 -- The refusal that an answer tells, by its number and the values that go with it.
-use Rattle.std.specs.Prelude.{ℕ, Some, None, Ok, Err, Option, Result}
+use Rattle.std.specs.Prelude.{Some, None, Ok, Err, Option, Result}
 use Rattle.faults.specs.Fault.{entry_fault_number, withdrawal_fault_number}
 use Rattle.faults.specs.Refusal.{compaction_refusal, reduction_refusal, refusal, trial_refusal}
 use Rattle.faults.specs.declared.refusal.Refusal.{Refusal}

@@ -1,5 +1,4 @@
-use Rattle.std.proofs.Common.{◌≡◌, [], ◌∷◌, ◌++◌, take, is_ok, sym, ap, ◌∙◌, ap₂, arith}
-use Rattle.graph.specs.declared.numbered.Numbered.{Numbered}
+use Rattle.std.proofs.Common.{[], ◌∷◌, ◌++◌, take, is_ok, sym, ap, ◌∙◌, ap₂, arith}
 use Rattle.cell.proofs.Gathering.{book_kept, book_passed}
 use Rattle.cell.proofs.force.gather_book.Goals as goal
 use Rattle.cell.proofs.force.gather_book.Goals.{then-is_ok, else-is_ok}

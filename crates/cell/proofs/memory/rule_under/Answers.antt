@@ -1,6 +1,5 @@
 use Rattle.std.proofs.Common.{Some, sym, ap, ◌∙◌, arith}
 use Rattle.std.proofs.lemmas.List.{get_or-take, length-take}
-use Rattle.rules.specs.declared.rule.Rule.{Rule}
 use Rattle.cell.specs.declared.record.Record.{Record}
 use Rattle.cell.proofs.Tags.{found_rule, no_rule}
 use Rattle.cell.proofs.memory.rule_under.Goals as goal

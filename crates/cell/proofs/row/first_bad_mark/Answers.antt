@@ -1,4 +1,4 @@
-use Rattle.std.proofs.Common.{◌≡◌, take, sym, ap, ◌∙◌, arith}
+use Rattle.std.proofs.Common.{take, sym, ap, ◌∙◌, arith}
 use Rattle.std.proofs.lemmas.List.{at_drop_all, length-take}
 use Rattle.cell.specs.Trial.{bad_mark, may_lie}
 use Rattle.cell.proofs.Trying.{mark_bad, mark_good}

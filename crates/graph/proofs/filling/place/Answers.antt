@@ -1,4 +1,4 @@
-use Rattle.std.proofs.Common.{refl, arith}
+use Rattle.std.proofs.Common.{refl}
 use Rattle.std.proofs.lemmas.Nat.{mul-add-lt}
 use Rattle.graph.proofs.filling.place.Goals as goal
 

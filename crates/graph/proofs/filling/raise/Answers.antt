@@ -1,4 +1,4 @@
-use Rattle.std.proofs.Common.{sym, ◌∙◌, arith}
+use Rattle.std.proofs.Common.{sym, arith}
 use Rattle.graph.proofs.Beginning.{raised_more, raised_same}
 use Rattle.graph.proofs.filling.raise.Goals as goal
 

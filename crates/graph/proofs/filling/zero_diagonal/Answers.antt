@@ -1,4 +1,4 @@
-use Rattle.std.proofs.Common.{◌≡◌, ℕ, refl, ap, ◌∙◌, arith}
+use Rattle.std.proofs.Common.{◌≡◌, ℕ, ap, ◌∙◌, arith}
 use Rattle.graph.specs.Filling.{diagonal}
 use Rattle.graph.proofs.Beginning.{diagonal_more, diagonal_none}
 use Rattle.graph.proofs.filling.zero_diagonal.Goals as goal

@@ -1,5 +1,4 @@
 use Rattle.std.proofs.Common.{arith}
-use Rattle.graph.specs.Trial.{smallest}
 use Rattle.graph.proofs.Trials.{read_marks_below, smallest_broken, smallest_unbroken, tried_all}
 use Rattle.graph.proofs.trial.trial.Goals as goal
 use Rattle.graph.proofs.trial.trial.Goals.{then-breaks, else-breaks}

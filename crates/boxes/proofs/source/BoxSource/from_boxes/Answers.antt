@@ -1,8 +1,7 @@
 use Rattle.std.proofs.Common.{◌≡◌, ◌+◌, List, [], ◌∷◌, ◌++◌, take, sym, ap, ◌∙◌, subst}
 use Rattle.std.proofs.lemmas.List.{map_more, take_all}
 use Rattle.boxes.specs.Held.{Holds, all_figures}
-use Rattle.boxes.specs.Places.{TellsPairs, box_places}
-use Rattle.boxes.specs.declared.figures.Figures.{Figures}
+use Rattle.boxes.specs.Places.{TellsPairs}
 use Rattle.boxes.specs.declared.layout_box.LayoutBox.{LayoutBox}
 use Rattle.boxes.proofs.Holding.{held_places, pairs_told}
 use Rattle.boxes.proofs.source.BoxSource.from_boxes.Goals as goal

@@ -1,4 +1,4 @@
-use Rattle.std.proofs.Common.{◌+◌, ◌<◌, length, ap, ◌∙◌, arith, rules}
+use Rattle.std.proofs.Common.{◌<◌, length, ap, ◌∙◌, arith, rules}
 use Rattle.std.proofs.lemmas.List.{length-set, take_more_set}
 use Rattle.cell.specs.Book.{sound}
 use Rattle.cell.proofs.cell.Cell.append.Goals as goal

@@ -1,4 +1,4 @@
-use Rattle.std.proofs.Common.{◌≡◌, true, List, length, take, sym, ap, subst, arith}
+use Rattle.std.proofs.Common.{◌≡◌, true, List, length, sym, ap, subst, arith}
 use Rattle.std.proofs.lemmas.Result.{err_from_is_err_and}
 use Rattle.std.proofs.lemmas.List.{length-take}
 use Rattle.graph.specs.Packing.{Bordered}

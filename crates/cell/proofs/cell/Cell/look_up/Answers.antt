@@ -1,4 +1,4 @@
-use Rattle.std.proofs.Common.{◌≡◌, ap, ◌∙◌}
+use Rattle.std.proofs.Common.{ap, ◌∙◌}
 use Rattle.cell.specs.Book.{look_up}
 use Rattle.cell.specs.Memory.{book}
 use Rattle.cell.proofs.Sound.{no_tag_zero}

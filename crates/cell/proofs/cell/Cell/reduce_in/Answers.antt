@@ -1,4 +1,4 @@
-use Rattle.std.proofs.Common.{◌≡◌, true, List, length, take, sym, ap, subst, arith}
+use Rattle.std.proofs.Common.{◌≡◌, true, List, length, sym, ap, subst, arith}
 use Rattle.std.proofs.lemmas.List.{length-take}
 use Rattle.graph.specs.Ready.{sound}
 use Rattle.graph.specs.declared.numbered.Numbered.{Numbered}

@@ -1,7 +1,6 @@
-use Rattle.std.proofs.Common.{◌≡◌, List, sym, ◌∙◌, subst, arith}
+use Rattle.std.proofs.Common.{List, sym, subst}
 use Rattle.graph.specs.Trial.{Tried}
 use Rattle.graph.specs.declared.numbered.Numbered.{Numbered}
-use Rattle.cell.specs.Force.{in_force}
 use Rattle.cell.specs.Memory.{book}
 use Rattle.cell.proofs.Sound.{sound_to}
 use Rattle.cell.proofs.Trying.{some_answer, tries}

@@ -1,5 +1,4 @@
-use Rattle.std.proofs.Common.{◌≡◌, ◌<◌, length, arith}
-use Rattle.std.proofs.lemmas.Bool.{cond-true, eq-eqb}
+use Rattle.std.proofs.Common.{◌<◌, length, arith}
 use Rattle.cell.specs.Memory.{book}
 use Rattle.cell.proofs.Entries.{length_book}
 use Rattle.cell.proofs.Striking.{some_entry}

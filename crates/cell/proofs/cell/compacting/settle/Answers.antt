@@ -1,4 +1,4 @@
-use Rattle.std.proofs.Common.{◌≡◌, ℕ, List, take, refl, subst}
+use Rattle.std.proofs.Common.{ℕ, take, refl, subst}
 use native.Mathlib.Nat.{sub-zero}
 use Rattle.graph.proofs.PackedRows.{over_constrained, settled}
 use Rattle.graph.specs.Cycles.{Shows}

@@ -1,4 +1,4 @@
-use Rattle.std.proofs.Common.{◌≡◌, ℕ, take, subst}
+use Rattle.std.proofs.Common.{ℕ, take, subst}
 use native.Mathlib.Nat.{sub-zero}
 use Rattle.graph.specs.Distancing.{Distanced}
 use Rattle.graph.specs.declared.distancing.Distancing.TheVariants.{Done, OverConstrained}

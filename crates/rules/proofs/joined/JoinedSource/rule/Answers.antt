@@ -1,4 +1,4 @@
-use Rattle.std.proofs.Common.{sym, ap, ◌∙◌, arith}
+use Rattle.std.proofs.Common.{sym, ◌∙◌, arith}
 use Rattle.rules.proofs.Sources.{joined_first, joined_second, joined_many}
 use Rattle.rules.proofs.joined.JoinedSource.rule.Goals as goal
 
