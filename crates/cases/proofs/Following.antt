@@ -1,6 +1,6 @@
 -- A worked case that passes the test follows from the definitions, and all of them pass.
 use Rattle.std.proofs.Common.{◌≡◌, ℕ, ◌<◌, ◌≤◌, true, not, ◌&&◌, eqb, leb, List, [], length, get_or, is_ok, Ok, Option, refl, ap, ◌∙◌, subst, arith, rules}
-use Rattle.std.specs.List.{ContainsAt as Has, AllByRecursion as All}
+use Rattle.std.specs.List.{ContainsAt as Has, AllByRecursion as Every}
 use Rattle.std.proofs.ByRecursion.{All-map, All-weaker}
 use Rattle.std.proofs.lemmas.List.{length-map}
 use Rattle.std.proofs.lemmas.Bool.{and_parts, eqb-true, leb-true, not-true, not-false}
@@ -37,7 +37,7 @@ use Rattle.cases.proofs.Testing.{alike, every, every_below, apart, leads_to, sam
 use Rattle.cases.proofs.Passing.{every_below_at, every_all, alike_same, ok_unit, answers_ok, marks_some, marks_few, apart_marks, leads_marks, chosen_drawn, accepted_from, same_is, same_some_is, same_rule_is}
 
 module _ {L : Type 0} (k : Kind L) (laws : Laws k) where
-  module _ (n : ℕ) (rules : List (Rule L)) (some : 1 ≤ n) (few : n ≤ 256) (marks : All (MarksBelow n) rules) (small : All (GapAtMost k gap_limit) rules) where
+  module _ (n : ℕ) (rules : List (Rule L)) (some : 1 ≤ n) (few : n ≤ 256) (marks : Every (MarksBelow n) rules) (small : Every (GapAtMost k gap_limit) rules) where
     distances : Distances k n rules (λ i j. longest_to k rules j n i)
     distances = layers_distances k laws n rules few (All-weaker (GapAtMost k gap_limit) (GapAtMost k rival_limit) (λ r h. omega arith) rules small)
 
@@ -100,7 +100,7 @@ module _ {L : Type 0} (k : Kind L) (laws : Laws k) where
         (feasible (from_zero k n rules) (placement (from_zero k n rules) a.0), (d, distances, alike_same (same_rule k) (same_rule_is k laws) (reduced_list k d n) list a.1))
 
   module _ (n : ℕ) (rules : List (Numbered L)) where
-    shown_cycle : (i : ℕ) (p : List (Numbered L)) → All (Has rules) p → circles k n i (plain p) ≡ true → ShownCycle k n rules i p
+    shown_cycle : (i : ℕ) (p : List (Numbered L)) → Every (Has rules) p → circles k n i (plain p) ≡ true → ShownCycle k n rules i p
     shown_cycle i p drawn h =
         let q = plain p in
         let some = leb 1 (length q) in
@@ -137,15 +137,15 @@ module _ {L : Type 0} (k : Kind L) (laws : Laws k) where
         (i, p, shown_cycle i p (chosen_drawn k rules shown) a.1, alike_same eqb eqb-true (numbers p) shown a.0)
 
   module _ (n : ℕ) (book : List (Record L)) (places : List (Option (Rule L))) (marked : is_ok (marks_check n) ≡ true) (fit : source_check k n places ≡ Ok tt) where
-    fits : All (Fit k n) (in_force k n book places)
+    fits : Every (Fit k n) (in_force k n book places)
     fits = force_fits k n laws (marks_some n marked) book places fit
 
-    marks_of : All (MarksBelow n) (plain (in_force k n book places))
+    marks_of : Every (MarksBelow n) (plain (in_force k n book places))
     marks_of =
         All-map (MarksBelow n) (λ (q : Numbered L). q.rule) (in_force k n book places)
         (All-weaker (Fit k n) (λ q. MarksBelow n q.rule) (λ q h. let f = fitting_rule k n q.rule h in (f.from_below, f.to_below)) (in_force k n book places) fits)
 
-    gaps_of : All (GapAtMost k gap_limit) (plain (in_force k n book places))
+    gaps_of : Every (GapAtMost k gap_limit) (plain (in_force k n book places))
     gaps_of =
         All-map (GapAtMost k gap_limit) (λ (q : Numbered L). q.rule) (in_force k n book places)
         (All-weaker (Fit k n) (λ q. GapAtMost k gap_limit q.rule) (λ q h. (fitting_rule k n q.rule h).small) (in_force k n book places) fits)
@@ -185,5 +185,5 @@ follows (of_grid c) h = passes_follows grid_kind grid_laws c h
 follows (of_strict c) h = passes_follows strict_kind strict_laws c h
 
 -- Every worked case follows from the definitions.
-pub all_follow : All Follows worked
+pub all_follow : Every Follows worked
 all_follow = All-weaker (λ c. passes c ≡ true) Follows follows worked (every_all passes worked all_pass)

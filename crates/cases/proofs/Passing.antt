@@ -1,6 +1,6 @@
 -- What passing each part of the test of a worked case says.
 use Rattle.std.proofs.Common.{◌≡◌, ℕ, zero, suc, ◌<◌, ◌≤◌, Bool, true, false, not, ◌&&◌, eqb, leb, List, [], ◌∷◌, ◌++◌, map, is_ok, Some, None, Ok, Err, filter, Option, Result, sym, refl, ap, ◌∙◌, ⊎_elim, arith}
-use Rattle.std.specs.List.{ContainsAt as Has, AllByRecursion as All}
+use Rattle.std.specs.List.{ContainsAt as Has, AllByRecursion as Every}
 use Rattle.std.proofs.ByRecursion.{All-append, all-has, all_has_itself, all_kept_by}
 use Rattle.std.proofs.lemmas.List.{append_assoc, append-nil}
 use Rattle.std.proofs.lemmas.Bool.{and_parts, both_ways, cases_eq, cond-true, eqb-true, eqb-false, leb-true, not-true}
@@ -24,7 +24,7 @@ module _ (test : ℕ → Bool) where
       ⊎_elim (λ (e : m ≡ n). ap test e ∙ parts.0) (λ (e : m ≡ n → ⊥). every_below_at n parts.1 m (omega arith)) (cases_eq m n)
 
 module _ {X : Type 0} where
-  pub every_all : (test : X → Bool) (xs : List X) → every test xs ≡ true → All (λ x. test x ≡ true) xs
+  pub every_all : (test : X → Bool) (xs : List X) → every test xs ≡ true → Every (λ x. test x ≡ true) xs
   every_all test [] h = tt
   every_all test (x ∷ xs) h = let parts = and_parts (test x) (every test xs) h in (parts.0, every_all test xs parts.1)
 
@@ -68,7 +68,7 @@ module _ {L : Type 0} where
 
 module _ {L : Type 0} (k : Kind L) where
   -- The rules chosen by their numbers are among the rules.
-  pub chosen_drawn : (rules : List (Numbered L)) (shown : List ℕ) → All (Has rules) (chosen k rules shown)
+  pub chosen_drawn : (rules : List (Numbered L)) (shown : List ℕ) → Every (Has rules) (chosen k rules shown)
   chosen_drawn rules [] = tt
   chosen_drawn rules (m ∷ shown) =
       All-append (Has rules) (filter (λ q. eqb q.number m) rules) (chosen k rules shown)

@@ -1,6 +1,6 @@
 -- What nobody is ever to find: three ways in which a compaction or a reduction could be wrong.
 use Rattle.std.specs.Prelude.{◌≡◌, ℕ, ◌<◌, false, ◌⊎◌, List, length, take, Ok, Err, Result}
-use Rattle.std.specs.List.{ContainsAt as Has, AllByRecursion as All}
+use Rattle.std.specs.List.{ContainsAt as Has, AllByRecursion as Every}
 use Rattle.lengths.specs.Kind.{Kind}
 use Rattle.rules.specs.declared.rule.Rule.{Rule}
 use Rattle.graph.specs.Cycles.{numbers}
@@ -20,7 +20,7 @@ module _ {L : Type 0} (k : Kind L) (n : ℕ) (rules : List (Numbered L)) where
 
   -- No rules in force with these numbers, in this order, are a positive cycle.
   abbrev pub NoCycleShown : List ℕ → Type 0
-  NoCycleShown told = (i : ℕ) (shown : List (Numbered L)) → All (Has rules) shown → numbers shown ≡ told → PositiveCycle k (plain rules) i (plain shown) → ⊥
+  NoCycleShown told = (i : ℕ) (shown : List (Numbered L)) → Every (Has rules) shown → numbers shown ≡ told → PositiveCycle k (plain rules) i (plain shown) → ⊥
 
   -- Some row keeps every rule in force that has one of these numbers.
   abbrev pub ShownKept : List ℕ → Type 0
@@ -47,7 +47,7 @@ module _ {L : Type 0} (k : Kind L) (n : ℕ) (rules : List (Numbered L)) where
   abbrev pub WronglyReduced : (list : List (Rule L)) → Type 0
   WronglyReduced list =
       (OtherPlacements (plain rules) list ⊎ OtherPlacements list (plain rules))
-      ⊎ ((rival : List (Rule L)) × All (Between k n) rival × SamePlacements k n (plain rules) rival × (length rival < length list))
+      ⊎ ((rival : List (Rule L)) × Every (Between k n) rival × SamePlacements k n (plain rules) rival × (length rival < length list))
 
   -- What can be found wrong with a compaction that answers so: 15 tells how many of the numbers are the cycle's.
   abbrev pub CompactionFinding : Result (Unit {0}) CompactionFault → (row' : List L) (list' : List ℕ) → Type 0

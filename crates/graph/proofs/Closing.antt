@@ -1,6 +1,6 @@
 -- A closed chain of last rules is a positive cycle, and a raise in round n leaves one.
 use Rattle.std.proofs.Common.{◌≡◌, ℕ, zero, suc, ◌+◌, ◌-◌, ◌*◌, ◌<◌, ◌≤◌, true, false, ◌⊎◌, List, [], ◌∷◌, length, sym, ap, ◌∙◌, inl, inr, ⊎_elim, arith}
-use Rattle.std.specs.List.{ContainsAt as Has, AllByRecursion as All}
+use Rattle.std.specs.List.{ContainsAt as Has, AllByRecursion as Every}
 use Rattle.std.proofs.lemmas.List.{length-map}
 use Rattle.std.proofs.lemmas.Bool.{cases_lt}
 use Rattle.lengths.specs.Kind.{Kind, Laws}
@@ -20,7 +20,7 @@ use Rattle.graph.proofs.Raising.{gaps_small, measure_reached}
 use Rattle.graph.proofs.Following.{before_raised, back_add, back_raised, returns_along, distinct_on_way, chain_length, chain_plain, chain_drawn, chain_leads, chain_leaves, chain_apart}
 
 -- Rules drawn from numbered rules are drawn from the plain ones.
-pub plain_drawn : {L : Type 0} (rules p : List (Numbered L)) → All (Has rules) p → All (Has (plain rules)) (plain p)
+pub plain_drawn : {L : Type 0} (rules p : List (Numbered L)) → Every (Has rules) p → Every (Has (plain rules)) (plain p)
 plain_drawn {L} rules [] a = tt
 plain_drawn {L} rules (q ∷ p) a = (has_map (λ (x : Numbered L). x.rule) rules q a.0, plain_drawn rules p a.1)
 
@@ -36,7 +36,7 @@ module _ {L : Type 0} (k : Kind L) (n : ℕ) (rules : List (Numbered L)) (start 
   near : (m : ℕ) → m < n → k.measure (position k row m) ≤ entry_limit
   near m l = measure_reached k n rules start setting laws tries m (position k row m) few (rounds.reached m l)
 
-  chain_small : (d m : ℕ) → way d m < n → All (GapAtMost k gap_limit) (plain (links d m))
+  chain_small : (d m : ℕ) → way d m < n → Every (GapAtMost k gap_limit) (plain (links d m))
   chain_small d m h = all_drawn (GapAtMost k gap_limit) (plain rules) (plain (links d m)) (plain_drawn rules (links d m) (chain_drawn k n rules last d m h)) (gaps_small k n rules start setting)
 
   chain_measure : (d m : ℕ) → d ≤ 256 → way d m < n → k.measure (path_length k (plain (links d m))) ≤ d * gap_limit

@@ -1,6 +1,6 @@
 -- Distances: a mark's distance to itself is zero, the triangle inequality, and the gaps below them.
 use Rattle.std.proofs.Common.{◌≡◌, ℕ, ◌*◌, ◌<◌, ◌≤◌, true, ◌⊎◌, List, [], ◌∷◌, ◌++◌, length, Some, None, Option, refl, ap, ◌∙◌, inl, inr, ⊎_elim, arith}
-use Rattle.std.specs.List.{ContainsAt as Has, AllByRecursion as All}
+use Rattle.std.specs.List.{ContainsAt as Has, AllByRecursion as Every}
 use Rattle.std.proofs.lemmas.List.{length-append}
 use Rattle.std.proofs.ByRecursion.{all-has, All-append, All-weaker}
 use Rattle.lengths.specs.Kind.{Kind, Laws}
@@ -25,13 +25,13 @@ near_limit = 512_000_000
 pub record Consistent {L : Type 0} (k : Kind L) (n g : ℕ) (rules : List (Rule L)) : Type 0 where
   pub some_marks : 1 ≤ n
   pub few_marks : n ≤ 256
-  pub marks : All (MarksBelow n) rules
-  pub small : All (GapAtMost k g) rules
+  pub marks : Every (MarksBelow n) rules
+  pub small : Every (GapAtMost k g) rules
   pub row : List L
   pub long : n ≤ length row
   pub border : position k row 0 ≡ k.zero
   pub near : (m : ℕ) → m < n → k.measure (position k row m) ≤ near_limit
-  pub keeps : All (Keeps k row) rules
+  pub keeps : Every (Keeps k row) rules
 
 -- Larger gaps may be allowed.
 pub consistent_wider : {L : Type 0} (k : Kind L) (n g h : ℕ) (rules : List (Rule L)) → g ≤ h → Consistent k n g rules → Consistent k n h rules

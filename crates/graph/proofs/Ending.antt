@@ -1,6 +1,6 @@
 -- How the rounds go on and end.
 use Rattle.std.proofs.Common.{◌≡◌, ℕ, ◌+◌, ◌*◌, ◌<◌, ◌≤◌, Bool, true, false, List, length, ⊎_elim, arith}
-use Rattle.std.specs.List.{AllByRecursion as All}
+use Rattle.std.specs.List.{AllByRecursion as Every}
 use Rattle.std.proofs.lemmas.Bool.{cases_lt}
 use Rattle.lengths.specs.Kind.{Kind, Laws}
 use Rattle.rules.specs.Rule.{gap_limit}
@@ -38,7 +38,7 @@ module _ {L : Type 0} (k : Kind L) (n : ℕ) (rules : List (Numbered L)) (start 
       (omega (arith, cycle_short n (plain rules) marks i p c.cycle, setting.few_marks)) (all_drawn (Keeps k row) (plain rules) p drawn settles.keeps)
 
   -- A settled row is the least above the start: any row that keeps every rule and puts no mark left of the start puts none left of it.
-  pub settles_least : (row other : List L) → Settles k n rules start row → ((m : ℕ) → m < n → k.measure (position k other m) ≤ row_limit) → All (Keeps k other) (plain rules) →
+  pub settles_least : (row other : List L) → Settles k n rules start row → ((m : ℕ) → m < n → k.measure (position k other m) ≤ row_limit) → Every (Keeps k other) (plain rules) →
       ((m : ℕ) → m < n → k.at_most (position k start m) (position k other m) ≡ true) → (m : ℕ) → m < n → k.at_most (position k row m) (position k other m) ≡ true
   settles_least row other settles near keeps above m l =
       let r = settles.reached m l in

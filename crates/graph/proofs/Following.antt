@@ -1,6 +1,6 @@
 -- Following last rules back from a mark.
 use Rattle.std.proofs.Common.{◌≡◌, ℕ, zero, suc, ◌+◌, ◌-◌, ◌<◌, ◌≤◌, ltb, List, [], ◌∷◌, ◌++◌, length, sym, refl, ap, ◌∙◌, ⊎_elim, zero-add, arith}
-use Rattle.std.specs.List.{ContainsAt as Has, AllByRecursion as All}
+use Rattle.std.specs.List.{ContainsAt as Has, AllByRecursion as Every}
 use Rattle.std.proofs.lemmas.List.{length-append, map_push}
 use Rattle.std.proofs.ByRecursion.{All-push, has_get_or, has_push_cases}
 use Rattle.std.proofs.lemmas.Bool.{cases_lt, cond-true, cond-false, lt-ltb, le-ltb}
@@ -87,7 +87,7 @@ module _ {L : Type 0} (k : Kind L) (n : ℕ) (rules : List (Numbered L)) (last :
   pub chain_plain : (d m : ℕ) → plain (links (suc d) m) ≡ plain (links d (before m)) ++ rule_at k rules (last_of k last m) ∷ []
   chain_plain d m = map_push (λ (q : Numbered L). q.rule) (links d (before m)) (numbered_at k rules (last_of k last m))
 
-  pub chain_drawn : (d m : ℕ) → way d m < n → All (Has rules) (links d m)
+  pub chain_drawn : (d m : ℕ) → way d m < n → Every (Has rules) (links d m)
   chain_drawn zero m h = tt
   chain_drawn (suc d) m h = All-push (Has rules) (links d (before m)) (numbered_at k rules (last_of k last m)) (chain_drawn d (before m) h) (has_get_or rules (last_of k last m) (blank k) (back_raised d m h).1)
 

@@ -1,6 +1,6 @@
 -- Distances computed by layers: the longest walks of at most 0, 1, 2, … rules.
 use Rattle.std.proofs.Common.{◌≡◌, ℕ, zero, suc, ◌*◌, ◌≤◌, true, cond, eqb, ◌⊎◌, List, [], ◌∷◌, length, Some, None, Option, sym, refl, ap, ◌∙◌, inl, inr, ⊎_elim, arith}
-use Rattle.std.specs.List.{ContainsAt as Has, AllByRecursion as All}
+use Rattle.std.specs.List.{ContainsAt as Has, AllByRecursion as Every}
 use Rattle.std.proofs.ByRecursion.{all-has}
 use Rattle.std.proofs.lemmas.Bool.{cond_both, eqb-true, eq-eqb}
 use Rattle.lengths.specs.Kind.{Kind, Laws}
@@ -114,19 +114,19 @@ module _ {L : Type 0} (k : Kind L) (laws : Laws k) where
           let my = near r.to s.0 s.2 in
           rw (← s.3) (omega arith)
 
-      step_measure : (rules : List (Rule L)) → All (GapAtMost k rival_limit) rules → (u : ℕ) → MeasureWithin k room (best_step k old rules u)
+      step_measure : (rules : List (Rule L)) → Every (GapAtMost k rival_limit) rules → (u : ℕ) → MeasureWithin k room (best_step k old rules u)
       step_measure rules small u x e =
           step_source (λ z. k.measure z ≤ room) u (λ z f. omega (arith, near u z f)) rules
           (λ r h l y f. omega (arith, near r.to y f, all-has (GapAtMost k rival_limit) rules r small h)) x e
 
       -- It is at least what was there, and at least what each rule leads on to.
-      step_stays : (rules : List (Rule L)) → All (GapAtMost k rival_limit) rules → (u : ℕ) (y : L) → k.measure y ≤ room → AtLeast k (old u) y → AtLeast k (best_step k old rules u) y
+      step_stays : (rules : List (Rule L)) → Every (GapAtMost k rival_limit) rules → (u : ℕ) (y : L) → k.measure y ≤ room → AtLeast k (old u) y → AtLeast k (best_step k old rules u) y
       unfolding best_step
       step_stays [] small u y my h = h
       step_stays (r ∷ rules) small u y my h =
           longer_second (candidate k old r u) (best_step k old rules u) y my (candidate_measure r u small.0) (step_measure rules small.1 u) (step_stays rules small.1 u y my h)
 
-      step_leaves : (rules : List (Rule L)) → All (GapAtMost k rival_limit) rules → (u : ℕ) (y z : L) (r : Rule L) → Has rules r → r.from ≡ u → old r.to ≡ Some z → k.measure y ≤ room → k.at_most y (k.sum r.gap z) ≡ true → AtLeast k (best_step k old rules u) y
+      step_leaves : (rules : List (Rule L)) → Every (GapAtMost k rival_limit) rules → (u : ℕ) (y z : L) (r : Rule L) → Has rules r → r.from ≡ u → old r.to ≡ Some z → k.measure y ≤ room → k.at_most y (k.sum r.gap z) ≡ true → AtLeast k (best_step k old rules u) y
       unfolding best_step
       step_leaves [] small u y z r h e f my l = absurd (has_none r h)
       step_leaves (t ∷ rules) small u y z r h e f my l =
@@ -136,10 +136,10 @@ module _ {L : Type 0} (k : Kind L) (laws : Laws k) where
           (λ i. longer_second (candidate k old t u) (best_step k old rules u) y my (candidate_measure t u small.0) (step_measure rules small.1 u) (step_leaves rules small.1 u y z r i e f my l))
           (has_cases t r rules h)
 
-module _ {L : Type 0} (k : Kind L) (laws : Laws k) (rules : List (Rule L)) (small : All (GapAtMost k rival_limit) rules) (j : ℕ) where
+module _ {L : Type 0} (k : Kind L) (laws : Laws k) (rules : List (Rule L)) (small : Every (GapAtMost k rival_limit) rules) (j : ℕ) where
   -- A walk of at most m rules from u to j of length x.
   abbrev Walked : ℕ → ℕ → L → Type 0
-  Walked m u x = (p : List (Rule L)) × (length p ≤ m) × All (Has rules) p × Leads u j p × (path_length k p ≡ x)
+  Walked m u x = (p : List (Rule L)) × (length p ≤ m) × Every (Has rules) p × Leads u j p × (path_length k p ≡ x)
 
   -- What a layer holds is the length of a walk.
   layer_walk : (m u : ℕ) (x : L) → longest_to k rules j m u ≡ Some x → Walked m u x
@@ -166,7 +166,7 @@ module _ {L : Type 0} (k : Kind L) (laws : Laws k) (rules : List (Rule L)) (smal
       measured p a b = omega arith
 
   -- No walk of at most m rules is longer than the layer says.
-  walk_layer : (m : ℕ) (p : List (Rule L)) (u : ℕ) → m ≤ 256 → length p ≤ m → All (Has rules) p → Leads u j p → AtLeast k (longest_to k rules j m u) (path_length k p)
+  walk_layer : (m : ℕ) (p : List (Rule L)) (u : ℕ) → m ≤ 256 → length p ≤ m → Every (Has rules) p → Leads u j p → AtLeast k (longest_to k rules j m u) (path_length k p)
   unfolding longest_to
   walk_layer zero [] u few short drawn leads = rw (eq-eqb u j leads) (k.zero, refl, reflexive k laws k.zero (omega (arith, laws.measure_zero)))
   walk_layer zero (r ∷ p) u few short drawn leads = absurd (omega arith)
@@ -183,7 +183,7 @@ module _ {L : Type 0} (k : Kind L) (laws : Laws k) (rules : List (Rule L)) (smal
       (monotone_left k laws (path_length k p) rest.0 r.gap (omega arith) rest.2)
 
 -- The layer of n rules gives the distances.
-pub layers_distances : {L : Type 0} (k : Kind L) (laws : Laws k) (n : ℕ) (rules : List (Rule L)) → n ≤ 256 → All (GapAtMost k rival_limit) rules → Distances k n rules (λ i j. longest_to k rules j n i)
+pub layers_distances : {L : Type 0} (k : Kind L) (laws : Laws k) (n : ℕ) (rules : List (Rule L)) → n ≤ 256 → Every (GapAtMost k rival_limit) rules → Distances k n rules (λ i j. longest_to k rules j n i)
 layers_distances k laws n rules few small = record {
   longest = λ i j li lj x e.
       let s = layer_walk k laws rules small j n i x e in

@@ -1,6 +1,6 @@
 -- Membership in lists, element by element.
 use Rattle.std.proofs.Common.{◌≡◌, ℕ, zero, suc, ◌<◌, ◌⊎◌, List, [], ◌∷◌, ◌++◌, map, length, refl, ap, inl, inr, ⊎_elim, arith}
-use Rattle.std.specs.List.{HoldsAt, ContainsAt as Has, AllByRecursion as All}
+use Rattle.std.specs.List.{HoldsAt, ContainsAt as Has, AllByRecursion as Every}
 use Rattle.std.proofs.ByRecursion.{all-has, All-weaker}
 
 module _ {X : Type 0} where
@@ -28,19 +28,19 @@ module _ {X : Type 0} where
       (λ m. ⊎_elim (λ l. inl (has_there y x xs l)) (λ r. inr r) (has_append_cases xs ys x m))
       (has_cases y x (xs ++ ys) h)
 
-  pub all_left : (P : X → Type 0) (xs ys : List X) → All P (xs ++ ys) → All P xs
+  pub all_left : (P : X → Type 0) (xs ys : List X) → Every P (xs ++ ys) → Every P xs
   all_left P [] ys a = tt
   all_left P (x ∷ xs) ys a = (a.0, all_left P xs ys a.1)
 
-  pub all_right : (P : X → Type 0) (xs ys : List X) → All P (xs ++ ys) → All P ys
+  pub all_right : (P : X → Type 0) (xs ys : List X) → Every P (xs ++ ys) → Every P ys
   all_right P [] ys a = a
   all_right P (x ∷ xs) ys a = all_right P xs ys a.1
 
   -- What holds of every element holds of every element drawn from them.
-  pub all_drawn : (P : X → Type 0) (xs ys : List X) → All (Has xs) ys → All P xs → All P ys
+  pub all_drawn : (P : X → Type 0) (xs ys : List X) → Every (Has xs) ys → Every P xs → Every P ys
   all_drawn P xs ys drawn a = All-weaker (Has xs) P (λ y h. all-has P xs y a h) ys drawn
 
-  pub all_from_has : (P : X → Type 0) (xs : List X) → ((x : X) → Has xs x → P x) → All P xs
+  pub all_from_has : (P : X → Type 0) (xs : List X) → ((x : X) → Has xs x → P x) → Every P xs
   all_from_has P [] h = tt
   all_from_has P (x ∷ xs) h = (h x (has_here x xs), all_from_has P xs (λ y m. h y (has_there x y xs m)))
 

@@ -1,6 +1,6 @@
 -- Distances by midpoints: one mark after another is allowed between the ends of paths.
 use Rattle.std.proofs.Common.{◌≡◌, ℕ, zero, suc, ◌<◌, ◌≤◌, true, ◌⊎◌, List, ◌++◌, length, Some, None, Option, sym, refl, ap, ◌∙◌, inl, inr, ⊎_elim, arith}
-use Rattle.std.specs.List.{ContainsAt as Has, AllByRecursion as All}
+use Rattle.std.specs.List.{ContainsAt as Has, AllByRecursion as Every}
 use Rattle.std.proofs.lemmas.List.{length-append}
 use Rattle.std.proofs.ByRecursion.{all-has, All-append, All-weaker}
 use Rattle.std.proofs.lemmas.Bool.{cases_eq}
@@ -67,10 +67,10 @@ module _ {L : Type 0} (k : Kind L) (laws : Laws k) (n : ℕ) (rules : List (Rule
     record Joined (i j : ℕ) (x : L) : Type 0 where
       walk : List (Rule L)
       few : length walk ≤ 512
-      drawn : All (Has rules) walk
+      drawn : Every (Has rules) walk
       leads : Leads i j walk
       length_is : path_length k walk ≡ x
-      inner : All (λ v. v < suc m) (inner_marks walk)
+      inner : Every (λ v. v < suc m) (inner_marks walk)
 
     join : (i j : ℕ) → i < n → j < n → (a b : L) → t i m ≡ Some a → t m j ≡ Some b → Joined i j (k.sum a b)
     join i j li lj a b ea eb =

@@ -1,6 +1,6 @@
 -- A row that settled from zeros is at the longest path lengths from mark 0, where no rule lets a mark left of it.
 use Rattle.std.proofs.Common.{◌≡◌, ℕ, zero, suc, ◌*◌, ◌<◌, ◌≤◌, true, ◌&&◌, leb, List, ◌∷◌, length, take, drop, replicate, sym, refl, ap, ◌∙◌, subst, ⊎_elim, arith}
-use Rattle.std.specs.List.{ContainsAt as Has, AllByRecursion as All}
+use Rattle.std.specs.List.{ContainsAt as Has, AllByRecursion as Every}
 use Rattle.std.proofs.ByRecursion.{all-has}
 use Rattle.std.proofs.lemmas.List.{length-replicate, take_at}
 use Rattle.std.proofs.lemmas.Bool.{and_from, cases_lt, le-leb, true≢false}
@@ -59,10 +59,10 @@ module _ {L : Type 0} (k : Kind L) (laws : Laws k) where
 
   module _ (n : ℕ) (rules : List (Numbered L)) (before row : List L) (some : 1 ≤ n) (setting : Setting k n rules (cleared k n before))
       (settles : Settles k n rules (cleared k n before) row) (bordered : Bordered k n rules) where
-    small : All (GapAtMost k gap_limit) (plain rules)
+    small : Every (GapAtMost k gap_limit) (plain rules)
     small = gaps_small k n rules (cleared k n before) setting
 
-    marks : All (MarksBelow n) (plain rules)
+    marks : Every (MarksBelow n) (plain rules)
     marks = marks_below_all k n rules (cleared k n before) setting
 
     near : (m : ℕ) → m < n → k.measure (position k row m) ≤ row_limit
@@ -72,7 +72,7 @@ module _ {L : Type 0} (k : Kind L) (laws : Laws k) where
     record From_zero (m : ℕ) : Type 0 where
       walk : List (Rule L)
       short : length walk * gap_limit ≤ 4_000_000_000_000
-      drawn : All (Has (plain rules)) walk
+      drawn : Every (Has (plain rules)) walk
       leads : Leads 0 m walk
       is : position k row m ≡ path_length k walk
 
@@ -163,7 +163,7 @@ module _ {L : Type 0} (k : Kind L) (laws : Laws k) where
   refuted n d rules before row list list' setting shown zeros =
       let small = gaps_small k n rules (cleared k n before) setting in
       let marks = marks_below_all k n rules (cleared k n before) setting in
-      let none : (other : List L) → Row k n other → All (Keeps k other) (plain shown.cycle) → ⊥ =
+      let none : (other : List L) → Row k n other → Every (Keeps k other) (plain shown.cycle) → ⊥ =
       positive_cycle_no_row n (plain rules) marks k laws gap_limit small (omega (arith, setting.few_marks)) shown.mark (plain shown.cycle) shown.shows.positive in
       record {
         shown = shown;

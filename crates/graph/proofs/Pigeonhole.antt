@@ -1,6 +1,6 @@
 -- The pigeonhole principle: lists without repetition are short, and long lists repeat an element.
 use Rattle.std.proofs.Common.{◌≡◌, ℕ, zero, suc, ◌+◌, ◌<◌, ◌≤◌, ◌⊎◌, List, [], ◌∷◌, ◌++◌, length, get_or, sym, refl, ap, ◌∙◌, inl, inr, ⊎_elim, arith}
-use Rattle.std.specs.List.{ContainsAt as Has, AllByRecursion as All}
+use Rattle.std.specs.List.{ContainsAt as Has, AllByRecursion as Every}
 use Rattle.std.proofs.lemmas.List.{append_assoc, length-append, get_or_at}
 use Rattle.std.proofs.ByRecursion.{all-has, All-weaker, has_append_left, has_append_right}
 use Rattle.std.proofs.lemmas.Bool.{cases_eq}
@@ -30,7 +30,7 @@ module _ {X : Type 0} where
       (has_cases y x xs h)
 
   -- A list without repetition whose elements all occur in another is no longer than it: take the first element out of both.
-  pub distinct_no_longer : (xs ys : List X) → Distinct xs → All (Has ys) xs → length xs ≤ length ys
+  pub distinct_no_longer : (xs ys : List X) → Distinct xs → Every (Has ys) xs → length xs ≤ length ys
   distinct_no_longer [] ys distinct drawn = omega arith
   distinct_no_longer (x ∷ xs) ys distinct drawn =
       let split = has_split ys x drawn.0 in
@@ -78,7 +78,7 @@ apart_disjoint (m ∷ ms) ks x a h t =
     ⊎_elim (λ e. a.0 (has_append_right ms ks m (rw e t))) (λ i. apart_disjoint ms ks x a.1 i t) (has_cases m x ms h)
 
 -- A list of numbers below n in which none stands twice has at most n of them.
-pub apart_no_longer : (n : ℕ) (ms : List ℕ) → Apart ms → All (λ m. m < n) ms → length ms ≤ n
+pub apart_no_longer : (n : ℕ) (ms : List ℕ) → Apart ms → Every (λ m. m < n) ms → length ms ≤ n
 apart_no_longer n ms apart below =
     omega (arith, length_numbers_below n, distinct_no_longer ms (numbers_below n) (distinct_from_apart ms apart) (All-weaker (λ m. m < n) (Has (numbers_below n)) (λ m l. has_numbers_below n m l) ms below))
 
@@ -100,7 +100,7 @@ cases_repeats (m ∷ ms) =
     (cases_has ms m)
 
 -- A list of more than n numbers below n repeats one: else it would have at most n.
-pub pigeonhole : (n : ℕ) (ms : List ℕ) → All (λ m. m < n) ms → n < length ms → Repeats ms
+pub pigeonhole : (n : ℕ) (ms : List ℕ) → Every (λ m. m < n) ms → n < length ms → Repeats ms
 pigeonhole n ms below long = ⊎_elim (λ r. r) (λ a. absurd (omega (arith, apart_no_longer n ms a below))) (cases_repeats ms)
 
 -- The two places of a repetition.
@@ -134,7 +134,7 @@ getD_values f zero i d l = absurd (omega arith)
 getD_values f (suc n) zero d l = refl
 getD_values f (suc n) (suc i) d l = getD_values (λ i. f (suc i)) n i d (omega arith)
 
-all_values : (P : ℕ → Type 0) (f : ℕ → ℕ) (n : ℕ) → ((i : ℕ) → i < n → P (f i)) → All P (values f n)
+all_values : (P : ℕ → Type 0) (f : ℕ → ℕ) (n : ℕ) → ((i : ℕ) → i < n → P (f i)) → Every P (values f n)
 unfolding values
 all_values P f zero h = tt
 all_values P f (suc n) h = (h 0 (omega arith), all_values P (λ i. f (suc i)) n (λ i l. h (suc i) (omega arith)))

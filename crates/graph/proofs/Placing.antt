@@ -1,6 +1,6 @@
 -- A row settled from zeros, moved so that mark 0 lies at zero, is a placement of small measures.
 use Rattle.std.proofs.Common.{◌≡◌, ℕ, ◌<◌, ◌≤◌, true, List, map, length, sym, ap, ◌∙◌, subst, arith}
-use Rattle.std.specs.List.{ContainsAt as Has, AllByRecursion as All}
+use Rattle.std.specs.List.{ContainsAt as Has, AllByRecursion as Every}
 use Rattle.std.proofs.ByRecursion.{all-has}
 use Rattle.std.proofs.lemmas.List.{length-map, get_or-map}
 use Rattle.lengths.specs.Kind.{Kind, Laws}
@@ -22,10 +22,10 @@ use Rattle.graph.proofs.Distances.{Consistent}
 
 module _ {L : Type 0} (k : Kind L) (laws : Laws k) (n : ℕ) (rules : List (Numbered L)) (start : List L) (setting : Setting k n rules start)
     (zeros : (m : ℕ) → m < n → position k start m ≡ k.zero) (row : List L) (settles : Settles k n rules start row) where
-  marks : All (MarksBelow n) (plain rules)
+  marks : Every (MarksBelow n) (plain rules)
   marks = marks_below_all k n rules start setting
 
-  small : All (GapAtMost k gap_limit) (plain rules)
+  small : Every (GapAtMost k gap_limit) (plain rules)
   small = gaps_small k n rules start setting
 
   near : (m : ℕ) → m < n → k.measure (position k row m) ≤ row_limit

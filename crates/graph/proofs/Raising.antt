@@ -1,6 +1,6 @@
 -- A raise keeps what holds while the rounds run.
 use Rattle.std.proofs.Common.{◌≡◌, ℕ, ◌+◌, ◌-◌, ◌<◌, ◌≤◌, true, false, eqb, ◌≢◌, ◌⊎◌, List, [], ◌∷◌, ◌++◌, length, get_or, set, sym, refl, ap, ◌∙◌, inl, inr, ⊎_elim, arith}
-use Rattle.std.specs.List.{ContainsAt as Has, AllByRecursion as All}
+use Rattle.std.specs.List.{ContainsAt as Has, AllByRecursion as Every}
 use Rattle.std.proofs.lemmas.List.{length-set, length-map, length_push, get_or-set_same, get_or-set_other, get_or-map, drop-set-lt}
 use Rattle.std.proofs.ByRecursion.{All-push, has_get_or, All-from_get_or}
 use Rattle.std.proofs.lemmas.Bool.{both_ways, cases_eq, cases_lt, cond-true, cond-false, eq-eqb, ne_eqb}
@@ -29,17 +29,17 @@ module _ {L : Type 0} (k : Kind L) (n : ℕ) (rules : List (Numbered L)) (start 
   rule_listed i l = has_map (λ (q : Numbered L). q.rule) rules (get_or rules i (blank k)) (has_get_or rules i (blank k) l)
 
   -- What holds of the rule at each index holds of every rule.
-  pub all_from_rules : (P : Rule L → Type 0) → ((i : ℕ) → i < length rules → P (rule_at k rules i)) → All P (plain rules)
+  pub all_from_rules : (P : Rule L → Type 0) → ((i : ℕ) → i < length rules → P (rule_at k rules i)) → Every P (plain rules)
   all_from_rules P each =
       All-from_get_or P (plain rules) (blank k).rule
       (λ i l. let inside : i < length rules = omega (arith, length-map rules (λ (q : Numbered L). q.rule)) in
       rw (get_or-map (λ (q : Numbered L). q.rule) rules i (blank k) (blank k).rule inside) (each i inside))
 
   -- Every gap is within the limit, and every mark below n.
-  pub gaps_small : All (GapAtMost k gap_limit) (plain rules)
+  pub gaps_small : Every (GapAtMost k gap_limit) (plain rules)
   gaps_small = all_from_rules (GapAtMost k gap_limit) (λ i l. (setting.fitting i l).small)
 
-  pub marks_below_all : All (MarksBelow n) (plain rules)
+  pub marks_below_all : Every (MarksBelow n) (plain rules)
   marks_below_all = all_from_rules (MarksBelow n) (λ i l. let f = setting.fitting i l in (f.from_below, f.to_below))
 
   module _ (laws : Laws k) where

@@ -1,6 +1,6 @@
 -- What readiness says of marks, rules and row, and how the tests go through a list.
 use Rattle.std.proofs.Common.{◌≡◌, ℕ, ◌+◌, ◌<◌, ◌≤◌, Bool, true, false, cond, not, ◌&&◌, eqb, ltb, leb, List, [], ◌∷◌, length, get_or, take, drop, is_ok, Ok, Err, Result, sym, refl, ap, ◌∙◌, subst, arith}
-use Rattle.std.specs.List.{AllByRecursion as All}
+use Rattle.std.specs.List.{AllByRecursion as Every}
 use Rattle.std.proofs.lemmas.List.{at_drop_more, get_or_read, get_or-take, length-take-le}
 use Rattle.std.proofs.ByRecursion.{All-get_or}
 use Rattle.std.proofs.lemmas.Bool.{both_ways, and_parts, and_from, leb-true, ltb-true, ltb-false, eqb-false, le-leb, lt-leb}
@@ -56,11 +56,11 @@ module _ {L : Type 0} (k : Kind L) where
       go true false c d ea eb ec ed h = absurd (both_ways _ refl h)
       go false b c d ea eb ec ed h = absurd (both_ways _ refl h)
 
-  all_fitting : (n : ℕ) (rules : List (Numbered L)) → all_fit k n rules ≡ true → All (λ q. Fitting k n q.rule) rules
+  all_fitting : (n : ℕ) (rules : List (Numbered L)) → all_fit k n rules ≡ true → Every (λ q. Fitting k n q.rule) rules
   all_fitting n [] h = tt
   all_fitting n (q ∷ rules) h = let parts = and_parts (is_ok (rule_check k n q.rule)) (all_fit k n rules) h in (fitting_rule n q.rule parts.0, all_fitting n rules parts.1)
 
-  near_entries : (row : List L) → all_near k row ≡ true → All (λ x. k.measure x ≤ start_limit) row
+  near_entries : (row : List L) → all_near k row ≡ true → Every (λ x. k.measure x ≤ start_limit) row
   near_entries [] h = tt
   near_entries (x ∷ row) h = let parts = and_parts (leb (k.measure x) start_limit) (all_near k row) h in (leb-true (k.measure x) start_limit parts.0, near_entries row parts.1)
 

@@ -1,6 +1,6 @@
 -- What the table before the first midpoint holds: zeros, gaps and nothing else.
 use Rattle.std.proofs.Common.{◌≡◌, ℕ, zero, suc, ◌+◌, ◌*◌, ◌/◌, ◌%◌, ◌<◌, ◌≤◌, true, ◌≢◌, ◌⊎◌, List, [], ◌∷◌, length, get_or, drop, set, replicate, Some, None, sym, refl, ap, ◌∙◌, subst, inl, inr, ⊎_elim, arith}
-use Rattle.std.specs.List.{ContainsAt as Has, AllByRecursion as All}
+use Rattle.std.specs.List.{ContainsAt as Has, AllByRecursion as Every}
 use Rattle.std.proofs.lemmas.Nat.{mul-add-lt, div-mul-add, mod-mul-add}
 use Rattle.std.proofs.ByRecursion.{all-has, all_has_itself}
 use Rattle.std.proofs.lemmas.List.{length-append, length-replicate, length-set, get_or_append_left, get_or-replicate, get_or-set_same, get_or-set_other, drop_at, drop-set-lt}
@@ -31,7 +31,7 @@ same_place n i j a b lj lb e = (
 abbrev pub Sourced : {L : Type 0} → Kind L → List (Rule L) → ℕ → ℕ → L → Type 0
 Sourced {L} k rules i j x = (x ≡ none k) ⊎ (((i ≡ j) × (k.zero ≡ x)) ⊎ ((r : Rule L) × Has rules r × (r.from ≡ i) × (r.to ≡ j) × (r.gap ≡ x)))
 
-module _ {L : Type 0} (k : Kind L) (laws : Laws k) (n : ℕ) (rules : List (Rule L)) (marks : All (MarksBelow n) rules) (small : All (GapAtMost k gap_limit) rules) where
+module _ {L : Type 0} (k : Kind L) (laws : Laws k) (n : ℕ) (rules : List (Rule L)) (marks : Every (MarksBelow n) rules) (small : Every (GapAtMost k gap_limit) rules) where
   pub record Filling (table : List L) : Type 0 where
     pub long : n * n ≤ length table
     pub sourced : (i j : ℕ) → i < n → j < n → Sourced k rules i j (table_entry k table n i j)
@@ -109,13 +109,13 @@ module _ {L : Type 0} (k : Kind L) (laws : Laws k) (n : ℕ) (rules : List (Rule
   pub record Raised (qs : List (Numbered L)) (table table' : List L) : Type 0 where
     pub filling : Filling table'
     pub rises : (i j : ℕ) → i < n → j < n → k.at_most (table_entry k table n i j) (table_entry k table' n i j) ≡ true
-    pub gaps : All (λ r. k.at_most r.gap (table_entry k table' n r.from r.to) ≡ true) (plain qs)
+    pub gaps : Every (λ r. k.at_most r.gap (table_entry k table' n r.from r.to) ≡ true) (plain qs)
     pub beyond : drop (n * n) table' ≡ drop (n * n) table
 
   entry_measure : (table : List L) → Filling table → (i j : ℕ) → i < n → j < n → k.measure (table_entry k table n i j) ≤ far_measure
   entry_measure table f i j li lj = sourced_measure i j (table_entry k table n i j) (f.sourced i j li lj)
 
-  pub raised_all_is : (qs : List (Numbered L)) → All (Has rules) (plain qs) → (table : List L) → Filling table → Raised qs table (raised_all k n qs table)
+  pub raised_all_is : (qs : List (Numbered L)) → Every (Has rules) (plain qs) → (table : List L) → Filling table → Raised qs table (raised_all k n qs table)
   unfolding raised_all
   raised_all_is [] has table f = record {
     filling = f;
@@ -223,7 +223,7 @@ module _ {L : Type 0} (k : Kind L) (laws : Laws k) (n : ℕ) (rules : List (Rule
         (λ e. (table_entry k table n i j, e, h))
         (some_or_none i j li lj)
 
-    pub filling_stage : Consistent k n rival_limit rules → ((i : ℕ) → i < n → k.at_most k.zero (table_entry k table n i i) ≡ true) → All (λ r. k.at_most r.gap (table_entry k table n r.from r.to) ≡ true) rules → Stage k n rules 0 (table_distance k table n)
+    pub filling_stage : Consistent k n rival_limit rules → ((i : ℕ) → i < n → k.at_most k.zero (table_entry k table n i i) ≡ true) → Every (λ r. k.at_most r.gap (table_entry k table n r.from r.to) ≡ true) rules → Stage k n rules 0 (table_distance k table n)
     filling_stage c zeros gaps =
         stage_start k laws n rules c (table_distance k table n) entry_source
         (λ i li. entry_at_least i i li li k.zero (omega (arith, laws.measure_zero)) (zeros i li))
@@ -232,7 +232,7 @@ module _ {L : Type 0} (k : Kind L) (laws : Laws k) (n : ℕ) (rules : List (Rule
         entry_at_least r.from r.to b.0 b.1 r.gap (omega (arith, all-has (GapAtMost k gap_limit) rules r small has)) (all-has (λ r. k.at_most r.gap (table_entry k table n r.from r.to) ≡ true) rules r gaps has))
 
 -- The table before the first midpoint.
-module _ {L : Type 0} (k : Kind L) (laws : Laws k) (n : ℕ) (rules : List (Numbered L)) (marks : All (MarksBelow n) (plain rules)) (small : All (GapAtMost k gap_limit) (plain rules))
+module _ {L : Type 0} (k : Kind L) (laws : Laws k) (n : ℕ) (rules : List (Numbered L)) (marks : Every (MarksBelow n) (plain rules)) (small : Every (GapAtMost k gap_limit) (plain rules))
     (table : List L) (long : n * n ≤ length table) where
   start_zeroed : Zeroed k laws n (plain rules) marks small n (filled (n * n) (none k) table) (diagonal k n n (filled (n * n) (none k) table))
   start_zeroed = diagonal_is k laws n (plain rules) marks small (filled (n * n) (none k) table) (filled_filling k laws n (plain rules) marks small table long) n (omega arith)

@@ -1,6 +1,6 @@
 -- Tables of lengths over some midpoints: what holds of them to begin with, on the way, and with all marks as midpoints.
 use Rattle.std.proofs.Common.{◌≡◌, ℕ, ◌*◌, ◌<◌, ◌≤◌, ◌⊎◌, List, [], ◌∷◌, length, Some, Option, sym, ap, ◌∙◌, ⊎_elim, arith}
-use Rattle.std.specs.List.{ContainsAt as Has, AllByRecursion as All}
+use Rattle.std.specs.List.{ContainsAt as Has, AllByRecursion as Every}
 use Rattle.std.proofs.ByRecursion.{all-has, All-map, All-weaker}
 use Rattle.lengths.specs.Kind.{Kind, Laws}
 use Rattle.lengths.proofs.Algebra.{reflexive, sum_at_most}
@@ -21,7 +21,7 @@ pub record PathOver {L : Type 0} (k : Kind L) (n : ℕ) (rules : List (Rule L)) 
   pub path : List (Rule L)
   pub is_path : Path n rules i j path
   pub length_is : path_length k path ≡ x
-  pub inner : All (λ v. v < m) (inner_marks path)
+  pub inner : Every (λ v. v < m) (inner_marks path)
 
 -- A table after the midpoints below m: its lengths are those of paths over these marks, zero from each mark to itself, no gap is more, and the triangle inequality holds over these marks.
 pub record Stage {L : Type 0} (k : Kind L) (n : ℕ) (rules : List (Rule L)) (m : ℕ) (t : ℕ → ℕ → Option L) : Type 0 where
@@ -31,7 +31,7 @@ pub record Stage {L : Type 0} (k : Kind L) (n : ℕ) (rules : List (Rule L)) (m 
   pub triangle : (i x j : ℕ) → i < n → x < n → j < n → x < m → (a b : L) → t i x ≡ Some a → t x j ≡ Some b → AtLeast k (t i j) (k.sum a b)
 
 module _ {L : Type 0} (k : Kind L) (laws : Laws k) (n : ℕ) (rules : List (Rule L)) (c : Consistent k n rival_limit rules) where
-  pub measure_walk : (p : List (Rule L)) → length p ≤ 512 → All (Has rules) p → k.measure (path_length k p) ≤ 512_000_000_000
+  pub measure_walk : (p : List (Rule L)) → length p ≤ 512 → Every (Has rules) p → k.measure (path_length k p) ≤ 512_000_000_000
   measure_walk p few drawn =
       let m = measure_path_length k laws rival_limit p (all_drawn (GapAtMost k rival_limit) rules p drawn c.small) (omega arith) in
       omega arith
@@ -45,7 +45,7 @@ module _ {L : Type 0} (k : Kind L) (laws : Laws k) (n : ℕ) (rules : List (Rule
       (gaps : (r : Rule L) → Has rules r → AtLeast k (t r.from r.to) r.gap)
       (triangle : (i x j : ℕ) → i < n → x < n → j < n → x < m → (a b : L) → t i x ≡ Some a → t x j ≡ Some b → AtLeast k (t i j) (k.sum a b)) where
     -- No walk over the midpoints is longer than the table says.
-    pub walk_within : (p : List (Rule L)) (i j : ℕ) → i < n → j < n → length p ≤ 512 → All (Has rules) p → Leads i j p → All (λ v. v < m) (inner_marks p) → AtLeast k (t i j) (path_length k p)
+    pub walk_within : (p : List (Rule L)) (i j : ℕ) → i < n → j < n → length p ≤ 512 → Every (Has rules) p → Leads i j p → Every (λ v. v < m) (inner_marks p) → AtLeast k (t i j) (path_length k p)
     walk_within [] i j li lj few drawn leads inner = (k.zero, rw (← leads) (itself i li), reflexive k laws k.zero (omega (arith, laws.measure_zero)))
     walk_within (r ∷ []) i j li lj few drawn leads inner =
         let g = gaps r drawn.0 in
@@ -78,7 +78,7 @@ module _ {L : Type 0} (k : Kind L) (laws : Laws k) (n : ℕ) (rules : List (Rule
         bounded p few h = omega arith
 
     -- No walk over the midpoints is longer than the table says.
-    pub stage_walk : (p : List (Rule L)) (i j : ℕ) → i < n → j < n → length p ≤ 512 → All (Has rules) p → Leads i j p → All (λ v. v < m) (inner_marks p) → AtLeast k (t i j) (path_length k p)
+    pub stage_walk : (p : List (Rule L)) (i j : ℕ) → i < n → j < n → length p ≤ 512 → Every (Has rules) p → Leads i j p → Every (λ v. v < m) (inner_marks p) → AtLeast k (t i j) (path_length k p)
     stage_walk = walk_within t m (λ i j li lj x e. omega (arith, stage_measure i j li lj x e)) s.itself s.gaps s.triangle
 
   -- With all marks as midpoints the table has the distances.
@@ -102,7 +102,7 @@ module _ {L : Type 0} (k : Kind L) (laws : Laws k) (n : ℕ) (rules : List (Rule
         omega arith;
   }
     where
-      inner_below : (q : List (Rule L)) → All (Has rules) q → All (λ v. v < n) (inner_marks q)
+      inner_below : (q : List (Rule L)) → Every (Has rules) q → Every (λ v. v < n) (inner_marks q)
       inner_below [] drawn = tt
       inner_below (r ∷ q) drawn = All-map (λ v. v < n) (λ r. r.from) q (All-weaker (MarksBelow n) (λ r. r.from < n) (λ r h. h.0) q (all_drawn (MarksBelow n) rules q drawn.1 c.marks))
 

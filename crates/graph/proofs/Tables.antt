@@ -1,6 +1,6 @@
 -- Tables of distances: what they hold is what the distances are.
 use Rattle.std.proofs.Common.{◌≡◌, ℕ, ◌*◌, ◌<◌, ◌≤◌, false, List, length, Some, None, Option, sym, ap, ◌∙◌, subst, inl, inr, ⊎_elim, arith}
-use Rattle.std.specs.List.{AllByRecursion as All}
+use Rattle.std.specs.List.{AllByRecursion as Every}
 use Rattle.std.proofs.lemmas.Bool.{both_ways, cond-true, cond-false}
 use Rattle.lengths.specs.Kind.{Kind, Laws, near}
 use Rattle.lengths.proofs.Algebra.{reflexive, below_unless, opposite_of_opposite, opposite_at_most}
@@ -32,7 +32,7 @@ module _ {L : Type 0} (k : Kind L) (laws : Laws k) where
       cond-true (k.at_most (table_entry k table n i j) (k.opposite k.far)) None (Some (table_entry k table n i j))
       (rw e (reflexive k laws (k.opposite k.far) (omega arith)))
 
-  module _ (n : ℕ) (rules : List (Rule L)) (few : n ≤ 256) (small : All (GapAtMost k rival_limit) rules) (table : List L) where
+  module _ (n : ℕ) (rules : List (Rule L)) (few : n ≤ 256) (small : Every (GapAtMost k rival_limit) rules) (table : List L) where
     -- The longest length of a path is near.
     longest_near : (i j : ℕ) (x : L) → Longest k n rules i j x → k.measure x ≤ near
     longest_near i j x s =

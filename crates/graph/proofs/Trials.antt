@@ -1,6 +1,6 @@
 -- A trial answers the smallest number of a broken rule.
 use Rattle.std.proofs.Common.{◌≡◌, ℕ, ◌+◌, ◌<◌, ◌≤◌, min, Bool, true, false, cond, ◌&&◌, ltb, leb, ◌⊎◌, List, [], ◌∷◌, length, get_or, drop, Some, None, Option, unwrap_or, sym, refl, ap, ◌∙◌, inl, inr, ⊎_elim, arith}
-use Rattle.std.specs.List.{ContainsAt as Has, AllByRecursion as All}
+use Rattle.std.specs.List.{ContainsAt as Has, AllByRecursion as Every}
 use Rattle.std.proofs.lemmas.List.{at_drop_more, at_drop_all}
 use Rattle.std.proofs.ByRecursion.{all-has, All-get_or}
 use Rattle.std.proofs.lemmas.Bool.{both_ways, cases_Bool, cases_lt, cond-true, and_parts, and_from, ltb-true, le-leb}
@@ -26,7 +26,7 @@ module _ {L : Type 0} (n : ℕ) (rules : List (Numbered L)) (i : ℕ) (q : Numbe
   marks_below_fail whole both inv = (rw (← both) at (sym marks_below_more)) ∙ inv
 
 -- What the test says of every rule.
-pub all_marks_below : {L : Type 0} (n : ℕ) (rules : List (Numbered L)) → marks_below n rules ≡ true → All (λ q. (q.rule.from < n) × (q.rule.to < n)) rules
+pub all_marks_below : {L : Type 0} (n : ℕ) (rules : List (Numbered L)) → marks_below n rules ≡ true → Every (λ q. (q.rule.from < n) × (q.rule.to < n)) rules
 all_marks_below n [] h = tt
 all_marks_below n (q ∷ rules) h =
     let parts = and_parts (ltb q.rule.from n && ltb q.rule.to n) (marks_below n rules) h in
@@ -62,7 +62,7 @@ module _ {L : Type 0} (k : Kind L) (row : List L) where
 
   -- What a smallest number is, for a list read on from a smallest so far.
   pub Best : (so_far : Option ℕ) (rules : List (Numbered L)) → Option ℕ → Type 0
-  Best so_far rules None = (so_far ≡ None) × All (Keeps k row) (plain rules)
+  Best so_far rules None = (so_far ≡ None) × Every (Keeps k row) (plain rules)
   Best so_far rules (Some m) =
       ((so_far ≡ Some m) ⊎ ((q : Numbered L) × Has rules q × (Keeps k row q.rule → ⊥) × (q.number ≡ m)))
       × ((s : ℕ) → so_far ≡ Some s → m ≤ s)
@@ -111,16 +111,16 @@ module _ {L : Type 0} (k : Kind L) (row : List L) where
       (cases_Bool (k.at_most (k.sum (position k row q.rule.from) q.rule.gap) (position k row q.rule.to)))
 
   -- A list whose rules are all kept has no broken rule.
-  kept_rule : (rules : List (Numbered L)) (q : Numbered L) → All (Keeps k row) (plain rules) → Has rules q → Keeps k row q.rule
+  kept_rule : (rules : List (Numbered L)) (q : Numbered L) → Every (Keeps k row) (plain rules) → Has rules q → Keeps k row q.rule
   kept_rule rules q keeps has = all-has (Keeps k row) (plain rules) q.rule keeps (has_map (λ (x : Numbered L). x.rule) rules q has)
 
   -- The best of a whole list, in words.
-  best_kept : (rules : List (Numbered L)) (b : Option ℕ) → Best None rules b → All (Keeps k row) (plain rules) → answered k b ≡ 0
+  best_kept : (rules : List (Numbered L)) (b : Option ℕ) → Best None rules b → Every (Keeps k row) (plain rules) → answered k b ≡ 0
   unfolding Best
   best_kept rules None h keeps = refl
   best_kept rules (Some m) h keeps = ⊎_elim (λ e. let z : ◌≡◌ {A = ℕ} 0 1 = cc in absurd (omega arith)) (λ s. absurd (s.2 (kept_rule rules s.0 keeps s.1))) h.0
 
-  best_otherwise : (rules : List (Numbered L)) (b : Option ℕ) → Best None rules b → All (Keeps k row) (plain rules) ⊎ SmallestBroken k rules row (answered k b)
+  best_otherwise : (rules : List (Numbered L)) (b : Option ℕ) → Best None rules b → Every (Keeps k row) (plain rules) ⊎ SmallestBroken k rules row (answered k b)
   unfolding Best
   best_otherwise rules None h = inl h.1
   best_otherwise rules (Some m) h =
@@ -131,7 +131,7 @@ module _ {L : Type 0} (k : Kind L) (row : List L) where
   pub tried : (n : ℕ) (rules : List (Numbered L)) (r : Option ℕ) → triable n rules row ≡ true → r ≡ Some (answered k (smallest k row None rules)) → Tried k n rules row r
   tried n rules r fit e =
       let best = smallest_best None rules in
-      let otherwise : (m : ℕ) → r ≡ Some m → All (Keeps k row) (plain rules) ⊎ SmallestBroken k rules row m =
+      let otherwise : (m : ℕ) → r ≡ Some m → Every (Keeps k row) (plain rules) ⊎ SmallestBroken k rules row m =
       λ m f. let same : answered k (smallest k row None rules) ≡ m = cc in rw same at (best_otherwise rules (smallest k row None rules) best) in
       record {
         is = e ∙ sym (cond-true (triable n rules row) _ _ fit);

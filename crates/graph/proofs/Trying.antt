@@ -1,6 +1,6 @@
 -- From step to step and from round to round.
 use Rattle.std.proofs.Common.{◌≡◌, ℕ, ◌+◌, ◌-◌, ◌<◌, ◌≤◌, Bool, true, false, ◌⊎◌, List, [], length, get_or, set, sym, refl, ap, ◌∙◌, inl, inr, ⊎_elim, arith}
-use Rattle.std.specs.List.{AllByRecursion as All}
+use Rattle.std.specs.List.{AllByRecursion as Every}
 use Rattle.std.proofs.lemmas.Bool.{both_ways, cases_lt, cases_Bool, not-true, not-false}
 use Rattle.lengths.specs.Kind.{Kind, Laws}
 use Rattle.lengths.proofs.Algebra.{reflexive}
@@ -139,7 +139,7 @@ module _ {L : Type 0} (k : Kind L) (n : ℕ) (rules : List (Numbered L)) (start 
       }
 
   -- After a round without a raise every rule is kept.
-  pub quiet_keeps : (forwards : Bool) (tries current : ℕ) (raised : Bool) (row : List L) (last : List ℕ) → raised ≡ false → RoundAt k n rules start tries current forwards (length rules) raised row last → All (Keeps k row) (plain rules)
+  pub quiet_keeps : (forwards : Bool) (tries current : ℕ) (raised : Bool) (row : List L) (last : List ℕ) → raised ≡ false → RoundAt k n rules start tries current forwards (length rules) raised row last → Every (Keeps k row) (plain rules)
   quiet_keeps forwards tries current raised row last e before =
       all_from_rules k n rules start setting (Keeps k row) (λ i l. before.rounds.kept_now i l (done_all forwards (length rules) i l) (before.quiet e (rule_at k rules i).from))
 

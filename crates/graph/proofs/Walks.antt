@@ -1,6 +1,6 @@
 -- Walks: what joining and splitting do to their ends and lengths, and what a row that keeps their rules says.
 use Rattle.std.proofs.Common.{◌≡◌, ℕ, ◌+◌, ◌*◌, ◌<◌, ◌≤◌, true, List, [], ◌∷◌, ◌++◌, length, sym, refl, ap, ◌∙◌, mul-le-mul_right, arith}
-use Rattle.std.specs.List.{AllByRecursion as All}
+use Rattle.std.specs.List.{AllByRecursion as Every}
 use Rattle.std.proofs.lemmas.Bool.{both_ways}
 use Rattle.lengths.specs.Kind.{Kind, Laws}
 use Rattle.lengths.proofs.Algebra.{reflexive, unit_left, at_most_zero}
@@ -40,20 +40,20 @@ module _ {L : Type 0} where
   leads_unique (r ∷ p) i x y a b = leads_unique p r.to x y a.1 b.1
 
   -- Where a walk between marks below n starts below n, it ends below n.
-  pub leads_below : (n : ℕ) (p : List (Rule L)) (i j : ℕ) → i < n → All (MarksBelow n) p → Leads i j p → j < n
+  pub leads_below : (n : ℕ) (p : List (Rule L)) (i j : ℕ) → i < n → Every (MarksBelow n) p → Leads i j p → j < n
   leads_below n [] i j l m a = omega arith
   leads_below n (r ∷ p) i j l m a = leads_below n p r.to j m.0.1 m.1 a.1
 
 module _ {L : Type 0} (k : Kind L) (laws : Laws k) (g : ℕ) where
   -- A walk is as long as its gaps together, so of measure at most g for each rule.
-  pub measure_path_length : (p : List (Rule L)) → All (GapAtMost k g) p → length p * g ≤ walk_limit → k.measure (path_length k p) ≤ length p * g
+  pub measure_path_length : (p : List (Rule L)) → Every (GapAtMost k g) p → length p * g ≤ walk_limit → k.measure (path_length k p) ≤ length p * g
   measure_path_length [] small short = omega arith
   measure_path_length (r ∷ p) small short =
       let rest = measure_path_length p small.1 (omega arith) in
       omega arith
 
   -- The length of two walks joined is the sum of their lengths.
-  pub path_length_append : (p q : List (Rule L)) → All (GapAtMost k g) p → All (GapAtMost k g) q → (length p + length q) * g ≤ walk_limit → path_length k (p ++ q) ≡ k.sum (path_length k p) (path_length k q)
+  pub path_length_append : (p q : List (Rule L)) → Every (GapAtMost k g) p → Every (GapAtMost k g) q → (length p + length q) * g ≤ walk_limit → path_length k (p ++ q) ≡ k.sum (path_length k p) (path_length k q)
   path_length_append [] q small_p small_q short = sym (unit_left k laws (path_length k q) (omega (arith, measure_path_length q small_q (omega arith))))
   path_length_append (r ∷ p) q small_p small_q short =
       let a = measure_path_length p small_p.1 (omega arith) in
@@ -61,14 +61,14 @@ module _ {L : Type 0} (k : Kind L) (laws : Laws k) (g : ℕ) where
       ap (k.sum r.gap) (path_length_append p q small_p.1 small_q (omega arith))
       ∙ sym (laws.associative r.gap (path_length k p) (path_length k q) (omega arith))
 
-  pub path_length_push : (p : List (Rule L)) (r : Rule L) → All (GapAtMost k g) p → GapAtMost k g r → (length p + 1) * g ≤ walk_limit → path_length k (p ++ (r ∷ [])) ≡ k.sum (path_length k p) r.gap
+  pub path_length_push : (p : List (Rule L)) (r : Rule L) → Every (GapAtMost k g) p → GapAtMost k g r → (length p + 1) * g ≤ walk_limit → path_length k (p ++ (r ∷ [])) ≡ k.sum (path_length k p) r.gap
   path_length_push p r small_p small_r short =
       path_length_append p (r ∷ []) small_p (small_r, tt) short ∙ ap (k.sum (path_length k p)) (laws.unit r.gap (omega arith))
 
   module _ (n : ℕ) (row : List L) (near : (m : ℕ) → m < n → k.measure (position k row m) ≤ row_limit) where
     -- Along a walk: a row that keeps the rules of a walk from i to j puts j at least the walk's length beyond i.
     -- The first rule leads at least its gap on, and the others lead on from there.
-    pub along_walk : (p : List (Rule L)) (i j : ℕ) → i < n → All (MarksBelow n) p → All (GapAtMost k g) p → length p * g ≤ walk_limit → All (Keeps k row) p → Leads i j p → k.at_most (k.sum (position k row i) (path_length k p)) (position k row j) ≡ true
+    pub along_walk : (p : List (Rule L)) (i j : ℕ) → i < n → Every (MarksBelow n) p → Every (GapAtMost k g) p → length p * g ≤ walk_limit → Every (Keeps k row) p → Leads i j p → k.at_most (k.sum (position k row i) (path_length k p)) (position k row j) ≡ true
     along_walk [] i j l marks small short keeps leads =
         let a = near i l in
         let b = near j (omega arith) in
@@ -87,14 +87,14 @@ module _ {L : Type 0} (k : Kind L) (laws : Laws k) (g : ℕ) where
         (laws.monotone (k.sum start r.gap) middle (path_length k p) (omega arith) step) rest)
 
     -- A row that keeps the rules of a closed walk shows that its length is at most zero.
-    pub closed_walk : (p : List (Rule L)) (i : ℕ) → i < n → All (MarksBelow n) p → All (GapAtMost k g) p → length p * g ≤ walk_limit → All (Keeps k row) p → Leads i i p → k.at_most (path_length k p) k.zero ≡ true
+    pub closed_walk : (p : List (Rule L)) (i : ℕ) → i < n → Every (MarksBelow n) p → Every (GapAtMost k g) p → length p * g ≤ walk_limit → Every (Keeps k row) p → Leads i i p → k.at_most (path_length k p) k.zero ≡ true
     closed_walk p i l marks small short keeps leads =
         let a = near i l in
         let c = measure_path_length p small (omega arith) in
         at_most_zero k laws (position k row i) (path_length k p) (omega arith) (along_walk p i i l marks small short keeps leads)
 
     -- No row keeps the rules of a positive cycle: their length would be at most zero.
-    pub positive_cycle_unkept : (rules p : List (Rule L)) (i : ℕ) → PositiveCycle k rules i p → All (MarksBelow n) p → All (GapAtMost k g) p → length p * g ≤ walk_limit → All (Keeps k row) p → ⊥
+    pub positive_cycle_unkept : (rules p : List (Rule L)) (i : ℕ) → PositiveCycle k rules i p → Every (MarksBelow n) p → Every (GapAtMost k g) p → length p * g ≤ walk_limit → Every (Keeps k row) p → ⊥
     positive_cycle_unkept rules [] i c marks small short keeps = let s = c.cycle.some in omega arith
     positive_cycle_unkept rules (r ∷ p) i c marks small short keeps =
         let s = c.cycle.leads in

@@ -1,6 +1,6 @@
 -- What the rounds come to: one round at a time, and at the end a settled row or a cycle.
 use Rattle.std.specs.Prelude.{◌≡◌, ℕ, ◌+◌, ◌*◌, ◌<◌, ◌≤◌, Bool, true, false, List, length, drop, slice_set}
-use Rattle.std.specs.List.{ContainsAt as Has, AllByRecursion as All}
+use Rattle.std.specs.List.{ContainsAt as Has, AllByRecursion as Every}
 use Rattle.lengths.specs.Kind.{Kind}
 use Rattle.rules.specs.declared.rule.Rule.{Rule}
 use Rattle.graph.specs.declared.numbered.Numbered.{Numbered}
@@ -45,17 +45,17 @@ module _ {L : Type 0} (k : Kind L) where
   pub record Settles (n : ℕ) (rules : List (Numbered L)) (start row : List L) : Type 0 where
     pub same_length : length row ≡ length start
     pub beyond : drop n row ≡ drop n start
-    pub keeps : All (Keeps k row) (plain rules)
+    pub keeps : Every (Keeps k row) (plain rules)
     pub reached : (m : ℕ) → m < n → Reached k n (plain rules) start most_raises m (position k row m)
     pub near : (m : ℕ) → m < n → k.measure (position k row m) ≤ entry_limit
     pub risen : (m : ℕ) → m < n → k.at_most (position k start m) (position k row m) ≡ true
 
   -- A cycle to show: rules of the list, of more than zero together, that begin with the one leaving their smallest mark.
   pub record ShownCycle (n : ℕ) (rules : List (Numbered L)) (i : ℕ) (p : List (Numbered L)) : Type 0 where
-    pub drawn : All (Has rules) p
+    pub drawn : Every (Has rules) p
     pub short : length p ≤ n
     pub positive : PositiveCycle k (plain rules) i (plain p)
-    pub smallest_mark : All (λ m. i ≤ m) (left_marks (plain p))
+    pub smallest_mark : Every (λ m. i ≤ m) (left_marks (plain p))
 
   -- The rounds ended with a closed chain of last rules at a mark.
   pub record Closed (n : ℕ) (rules : List (Numbered L)) (start row : List L) (last : List ℕ) (i : ℕ) : Type 0 where

@@ -1,6 +1,6 @@
 -- Packing: the row at the longest path lengths from mark 0, of which no placement has any mark further left.
 use Rattle.std.specs.Prelude.{◌≡◌, ℕ, ◌<◌, ◌≤◌, Bool, true, false, ◌&&◌, List, length, drop, nat_le}
-use Rattle.std.specs.List.{ContainsAt as Has, AllByRecursion as All}
+use Rattle.std.specs.List.{ContainsAt as Has, AllByRecursion as Every}
 use Rattle.lengths.specs.Kind.{Kind}
 use Rattle.rules.specs.Rule.{minimum}
 use Rattle.rules.specs.declared.rule.Rule.{Rule}
@@ -48,7 +48,7 @@ module _ {L : Type 0} (k : Kind L) where
     -- the first d entries of the list are the numbers of a positive cycle, from its smallest mark, and the others are as they were
     pub shown : Written k n rules d list list'
     -- no row keeps even the rules of that cycle
-    pub unkept : (other : List L) → Row k n other → All (Keeps k other) (plain shown.cycle) → ⊥
+    pub unkept : (other : List L) → Row k n other → Every (Keeps k other) (plain shown.cycle) → ⊥
     -- so none keeps all
     pub unplaced : (other : List L) → Placement k n (plain rules) other → ⊥
     -- the marks of the row are zero, and its other entries as they were

@@ -1,6 +1,6 @@
 -- Paths of rules, their lengths, the longest, and cycles.
 use Rattle.std.specs.Prelude.{◌≡◌, ℕ, ◌<◌, ◌≤◌, true, false, List, [], ◌∷◌, map, length}
-use Rattle.std.specs.List.{ContainsAt as Has, AllByRecursion as All}
+use Rattle.std.specs.List.{ContainsAt as Has, AllByRecursion as Every}
 use Rattle.lengths.specs.Kind.{Kind}
 use Rattle.rules.specs.declared.rule.Rule.{Rule}
 
@@ -21,7 +21,7 @@ left_marks p = map (λ r. r.from) p
 -- A path from i to j: at most n of the rules, in a chain.
 pub record Path {L : Type 0} (n : ℕ) (rules : List (Rule L)) (i j : ℕ) (p : List (Rule L)) : Type 0 where
   pub short : length p ≤ n
-  pub drawn : All (Has rules) p
+  pub drawn : Every (Has rules) p
   pub leads : Leads i j p
 
 module _ {L : Type 0} (k : Kind L) where
@@ -40,7 +40,7 @@ module _ {L : Type 0} (k : Kind L) where
 -- A cycle at mark i: one or more of the rules lead from i back to i, and leave no mark twice.
 pub record Cycle {L : Type 0} (rules : List (Rule L)) (i : ℕ) (p : List (Rule L)) : Type 0 where
   pub some : 0 < length p
-  pub drawn : All (Has rules) p
+  pub drawn : Every (Has rules) p
   pub leads : Leads i i p
   pub once : Apart (left_marks p)
 

@@ -1,6 +1,6 @@
 -- Lists of rules with the same placements, and lists that no such list beats.
 use Rattle.std.specs.Prelude.{ℕ, ◌<◌, ◌≤◌, List, length}
-use Rattle.std.specs.List.{AllByRecursion as All}
+use Rattle.std.specs.List.{AllByRecursion as Every}
 use Rattle.lengths.specs.Kind.{Kind}
 use Rattle.rules.specs.declared.rule.Rule.{Rule}
 use Rattle.graph.specs.Rows.{Placement}
@@ -23,4 +23,4 @@ module _ {L : Type 0} (k : Kind L) (n : ℕ) where
 
   -- No list of rules between the marks with the same placements is shorter.
   abbrev pub Smallest : List (Rule L) → Type 0
-  Smallest xs = (ys : List (Rule L)) → All Between ys → SamePlacements xs ys → length xs ≤ length ys
+  Smallest xs = (ys : List (Rule L)) → Every Between ys → SamePlacements xs ys → length xs ≤ length ys

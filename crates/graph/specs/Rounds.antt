@@ -1,6 +1,6 @@
 -- Rounds of raises: what holds of the row and of the last rules while they run.
 use Rattle.std.specs.Prelude.{◌≡◌, ℕ, ◌+◌, ◌-◌, ◌<◌, ◌≤◌, Bool, true, false, cond, ◌⊎◌, List, length, drop, ◌==◌, slice_index}
-use Rattle.std.specs.List.{ContainsAt as Has, AllByRecursion as All}
+use Rattle.std.specs.List.{ContainsAt as Has, AllByRecursion as Every}
 use Rattle.lengths.specs.Kind.{Kind}
 use Rattle.rules.specs.declared.rule.Rule.{Rule}
 use Rattle.rules.specs.Rule.{gap_limit}
@@ -36,7 +36,7 @@ module _ {L : Type 0} (k : Kind L) where
     pub origin_below : origin < n
     pub walk : List (Rule L)
     pub short : length walk ≤ most
-    pub drawn : All (Has rules) walk
+    pub drawn : Every (Has rules) walk
     pub leads : Leads origin m walk
     pub is : x ≡ k.sum (position k start origin) (path_length k walk)
 

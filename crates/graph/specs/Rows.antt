@@ -1,6 +1,6 @@
 -- Rows of positions, the rules that a row keeps, and placements.
 use Rattle.std.specs.Prelude.{◌≡◌, ℕ, ◌<◌, ◌≤◌, true, List, length, slice_index_or}
-use Rattle.std.specs.List.{AllByRecursion as All}
+use Rattle.std.specs.List.{AllByRecursion as Every}
 use Rattle.lengths.specs.Kind.{Kind}
 use Rattle.rules.specs.declared.rule.Rule.{Rule}
 
@@ -26,4 +26,4 @@ module _ {L : Type 0} (k : Kind L) where
   -- A placement of rules: a row that keeps them all.
   pub record Placement (n : ℕ) (rules : List (Rule L)) (row : List L) : Type 0 where
     pub is_row : Row n row
-    pub keeps : All (Keeps row) rules
+    pub keeps : Every (Keeps row) rules

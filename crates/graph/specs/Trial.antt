@@ -1,6 +1,6 @@
 -- A trial of a row: which rules it breaks, and the answer.
 use Rattle.std.specs.Prelude.{◌≡◌, ℕ, ◌<◌, ◌≤◌, min, Bool, true, cond, not, ◌&&◌, ◌⊎◌, List, [], ◌∷◌, length, Some, None, Option, nat_le, nat_lt}
-use Rattle.std.specs.List.{ContainsAt as Has, AllByRecursion as All}
+use Rattle.std.specs.List.{ContainsAt as Has, AllByRecursion as Every}
 use Rattle.lengths.specs.Kind.{Kind}
 use Rattle.rules.specs.declared.rule.Rule.{Rule}
 use Rattle.graph.specs.declared.numbered.Numbered.{Numbered}
@@ -53,8 +53,8 @@ module _ {L : Type 0} (k : Kind L) where
     -- the answer is the one defined
     pub is : r ≡ trial_of n rules row
     -- a row that keeps every rule is answered 0
-    pub kept_zero : triable n rules row ≡ true → All (Keeps k row) (plain rules) → r ≡ Some 0
+    pub kept_zero : triable n rules row ≡ true → Every (Keeps k row) (plain rules) → r ≡ Some 0
     -- under numbers above 0, the answer 0 says that the row keeps every rule
-    pub zero_kept : All (λ q. 0 < q.number) rules → r ≡ Some 0 → All (Keeps k row) (plain rules)
+    pub zero_kept : Every (λ q. 0 < q.number) rules → r ≡ Some 0 → Every (Keeps k row) (plain rules)
     -- otherwise the answer is the smallest number of a broken rule
-    pub otherwise : (m : ℕ) → r ≡ Some m → All (Keeps k row) (plain rules) ⊎ SmallestBroken rules row m
+    pub otherwise : (m : ℕ) → r ≡ Some m → Every (Keeps k row) (plain rules) ⊎ SmallestBroken rules row m

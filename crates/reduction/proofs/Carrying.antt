@@ -1,6 +1,6 @@
 -- Rows that carry the distances: a row that keeps the reduced list does, round the rings and from leader to leader.
 use Rattle.std.proofs.Common.{◌≡◌, ℕ, zero, suc, ◌<◌, ◌≤◌, true, false, not, ◌&&◌, eqb, List, [], ◌∷◌, map, length, is_some, Some, None, filter, Option, sym, refl, ◌∙◌, subst, ⊎_elim, arith}
-use Rattle.std.specs.List.{ContainsAt as Has, flat_map, AllByRecursion as All}
+use Rattle.std.specs.List.{ContainsAt as Has, flat_map, AllByRecursion as Every}
 use Rattle.std.proofs.ByRecursion.{all-has, All-append, All-map}
 use Rattle.std.proofs.lemmas.Bool.{cases_eq, cases_Bool, both_ways, and_parts, and_from, not-true, not_from_false, eqb-false, ne_eqb}
 use Rattle.lengths.specs.Kind.{Kind, Laws}
@@ -30,12 +30,12 @@ module _ {L : Type 0} (k : Kind L) (d : ℕ → ℕ → Option L) where
 
   module _ (P : Rule L → Type 0) (In : ℕ → Type 0) (each : (u v : ℕ) → In u → In v → P (distance_rule k d u v)) where
     -- What holds of all rules between marks of a group holds of its ring.
-    all_ring_from : (first m : ℕ) (ms : List ℕ) → In first → In m → All In ms → All P (ring_from k d first m ms)
+    all_ring_from : (first m : ℕ) (ms : List ℕ) → In first → In m → Every In ms → Every P (ring_from k d first m ms)
     unfolding ring_from
     all_ring_from first m [] f h a = (each m first h f, tt)
     all_ring_from first m (next ∷ ms) f h a = (each m next h a.0, all_ring_from first next ms f a.0 a.1)
 
-    pub all_ring : (ms : List ℕ) → All In ms → All P (ring k d ms)
+    pub all_ring : (ms : List ℕ) → Every In ms → Every P (ring k d ms)
     unfolding ring
     all_ring [] a = tt
     all_ring (m ∷ []) a = tt
@@ -55,7 +55,7 @@ module _ {L : Type 0} (k : Kind L) (laws : Laws k) (n : ℕ) (d : ℕ → ℕ �
   listed_distance a b e = some_distance (d a b) (and_parts _ _ (and_parts _ _ e).1).0
 
   -- Every listed rule has a distance as its gap.
-  pub all_reduced : (P : Rule L → Type 0) → ((u v : ℕ) (x : L) → u < n → v < n → d u v ≡ Some x → P (distance_rule k d u v)) → All P (reduced_list k d n)
+  pub all_reduced : (P : Rule L → Type 0) → ((u v : ℕ) (x : L) → u < n → v < n → d u v ≡ Some x → P (distance_rule k d u v)) → Every P (reduced_list k d n)
   unfolding reduced_list pairs_from
   all_reduced P each =
       All-append P (flat_map (λ a. ring k d (group k d n a)) (leaders k d n)) (flat_map (pairs_from k d n) (leaders k d n))
@@ -99,13 +99,13 @@ module _ {L : Type 0} (k : Kind L) (laws : Laws k) (n : ℕ) (d : ℕ → ℕ �
           carries_joined u x v hu.0 hx.0 hv.0 (through_first k laws n d m u x v hu.0 hx.0 hv.0 (group_distance a u x la hu hx) t.there t.there_is) p q
 
       -- Round the ring from its first mark to each, and from each to the first.
-      ring_onward : (first x : ℕ) (ms : List ℕ) → In first → In x → All In ms → Carries k d row first x → All (Keeps k row) (ring_from k d first x ms) → All (Carries k d row first) (x ∷ ms)
+      ring_onward : (first x : ℕ) (ms : List ℕ) → In first → In x → Every In ms → Carries k d row first x → Every (Keeps k row) (ring_from k d first x ms) → Every (Carries k d row first) (x ∷ ms)
       unfolding ring_from
       ring_onward first x [] hf hx h c keeps = (c, tt)
       ring_onward first x (next ∷ ms) hf hx h c keeps =
           (c, ring_onward first next ms hf h.0 h.1 (group_step first x next hf hx h.0 c (carries_from_keeps k d row x next keeps.0)) keeps.1)
 
-      ring_back : (first x : ℕ) (ms : List ℕ) → In first → In x → All In ms → All (Keeps k row) (ring_from k d first x ms) → All (λ u. Carries k d row u first) (x ∷ ms)
+      ring_back : (first x : ℕ) (ms : List ℕ) → In first → In x → Every In ms → Every (Keeps k row) (ring_from k d first x ms) → Every (λ u. Carries k d row u first) (x ∷ ms)
       unfolding ring_from
       ring_back first x [] hf hx h keeps = (carries_from_keeps k d row x first keeps.0, tt)
       ring_back first x (next ∷ ms) hf hx h keeps =
@@ -113,7 +113,7 @@ module _ {L : Type 0} (k : Kind L) (laws : Laws k) (n : ℕ) (d : ℕ → ℕ �
           (group_step x next first hx h.0 hf (carries_from_keeps k d row x next keeps.0) rest.0, rest)
 
       -- A row that keeps a ring carries all distances inside the group.
-      ring_carries : (ms : List ℕ) → All In ms → All (Keeps k row) (ring k d ms) → (u v : ℕ) → Has ms u → Has ms v → Carries k d row u v
+      ring_carries : (ms : List ℕ) → Every In ms → Every (Keeps k row) (ring k d ms) → (u v : ℕ) → Has ms u → Has ms v → Carries k d row u v
       unfolding ring
       ring_carries [] h keeps u v iu iv = absurd (has_none u iu)
       ring_carries (x ∷ []) h keeps u v iu iv =
@@ -126,13 +126,13 @@ module _ {L : Type 0} (k : Kind L) (laws : Laws k) (n : ℕ) (d : ℕ → ℕ �
           group_step u x v (all-has In (x ∷ (next ∷ ms)) u h iu) h.0 (all-has In (x ∷ (next ∷ ms)) v h iv)
           (all-has (λ u. Carries k d row u x) (x ∷ (next ∷ ms)) u back iu) (all-has (Carries k d row x) (x ∷ (next ∷ ms)) v onward iv)
 
-      pub group_carries : All (Keeps k row) (ring k d (group k d n a)) → (u v : ℕ) → u < n → v < n → Tied k d a u → Tied k d a v → Carries k d row u v
+      pub group_carries : Every (Keeps k row) (ring k d (group k d n a)) → (u v : ℕ) → u < n → v < n → Tied k d a u → Tied k d a v → Carries k d row u v
       group_carries keeps u v lu lv tu tv =
           ring_carries (group k d n a) (all_from_has In (group k d n a) (λ u i. group_has k laws n d m a u la i)) keeps u v
           (has_group k laws n d m a u la lu tu) (has_group k laws n d m a v la lv tv)
 
-    module _ (keeps : All (Keeps k row) (reduced_list k d n)) where
-      kept_rings : (a : ℕ) → Has (leaders k d n) a → All (Keeps k row) (ring k d (group k d n a))
+    module _ (keeps : Every (Keeps k row) (reduced_list k d n)) where
+      kept_rings : (a : ℕ) → Has (leaders k d n) a → Every (Keeps k row) (ring k d (group k d n a))
       unfolding reduced_list
       kept_rings a h = all_joined (λ a. ring k d (group k d n a)) (Keeps k row) (leaders k d n) a (all_left (Keeps k row) (flat_map (λ a. ring k d (group k d n a)) (leaders k d n)) (flat_map (pairs_from k d n) (leaders k d n)) keeps) h
 

@@ -1,6 +1,6 @@
 -- No rival is shorter: a list of rules with the same placements has a rule for each key of the reduced list.
 use Rattle.std.proofs.Common.{◌≡◌, ℕ, ◌*◌, ◌<◌, ◌≤◌, true, false, not, ◌&&◌, eqb, ◌⊎◌, List, [], ◌∷◌, map, length, is_some, Some, Option, sym, ap, ◌∙◌, inl, inr, ⊎_elim, arith}
-use Rattle.std.specs.List.{ContainsAt as Has, flat_map, AllByRecursion as All}
+use Rattle.std.specs.List.{ContainsAt as Has, flat_map, AllByRecursion as Every}
 use Rattle.std.proofs.lemmas.List.{length-map}
 use Rattle.std.proofs.ByRecursion.{all-has, All-weaker}
 use Rattle.std.proofs.lemmas.Bool.{cases_eq, and_parts, and_from, not-true, not_from_false, ne_eqb}
@@ -39,7 +39,7 @@ module _ {L : Type 0} (k : Kind L) (laws : Laws k) (n : ℕ) (rules : List (Rule
       bounded : (p : List (Rule L)) → length p ≤ 256 → k.measure (path_length k p) ≤ length p * gap_limit → k.measure (path_length k p) ≤ rival_limit
       bounded p few h = omega arith
 
-  module _ (rival : List (Rule L)) (between : All (Between k n) rival) (same : SamePlacements k n rules rival) where
+  module _ (rival : List (Rule L)) (between : Every (Between k n) rival) (same : SamePlacements k n rules rival) where
     wide : Consistent k n rival_limit rules
     wide = consistent_wider k n gap_limit rival_limit rules (omega arith) c
 
@@ -73,13 +73,13 @@ module _ {L : Type 0} (k : Kind L) (laws : Laws k) (n : ℕ) (rules : List (Rule
         backing k laws n rival rival_consistent i j x li lj (distance_near i j li lj x e)
         (λ row placed. placement_carries k laws n rules d wide dist row (same.back row placed) i j li lj x e)
 
-    rival_measure : (p : List (Rule L)) → length p ≤ 256 → All (Has rival) p → k.measure (path_length k p) ≤ distance_limit
+    rival_measure : (p : List (Rule L)) → length p ≤ 256 → Every (Has rival) p → k.measure (path_length k p) ≤ distance_limit
     rival_measure p few drawn =
         let m = measure_path_length k laws rival_limit p (all_drawn (GapAtMost k rival_limit) rival p drawn rival_consistent.small) (omega arith) in
         omega arith
 
     -- A rule of the rival before a walk: the gap is at most one distance, the walk at most another, and the distances obey the triangle inequality.
-    rival_step : (r : Rule L) (p : List (Rule L)) (j : ℕ) → j < n → Has rival r → length p ≤ 256 → All (Has rival) p → (b : L) → d r.to j ≡ Some b → k.at_most (path_length k p) b ≡ true → (x : L) × (d r.from j ≡ Some x) × (k.at_most (path_length k (r ∷ p)) x ≡ true)
+    rival_step : (r : Rule L) (p : List (Rule L)) (j : ℕ) → j < n → Has rival r → length p ≤ 256 → Every (Has rival) p → (b : L) → d r.to j ≡ Some b → k.at_most (path_length k p) b ≡ true → (x : L) × (d r.from j ≡ Some x) × (k.at_most (path_length k (r ∷ p)) x ≡ true)
     rival_step r p j lj h few drawn b e l =
         let between_r = all-has (Between k n) rival r between h in
         let lf = between_r.from_below in
@@ -94,7 +94,7 @@ module _ {L : Type 0} (k : Kind L) (laws : Laws k) (n : ℕ) (rules : List (Rule
         (t.0, t.1, laws.transitive (path_length k (r ∷ p)) (k.sum g.0 b) t.0 (omega arith) (sum_at_most k laws r.gap g.0 (path_length k p) b (omega arith) g.2 l) t.2)
 
     -- No walk of the rival is longer than the distance.
-    rival_walk : (p : List (Rule L)) (i j : ℕ) → i < n → j < n → length p ≤ 256 → All (Has rival) p → Leads i j p → (x : L) × (d i j ≡ Some x) × (k.at_most (path_length k p) x ≡ true)
+    rival_walk : (p : List (Rule L)) (i j : ℕ) → i < n → j < n → length p ≤ 256 → Every (Has rival) p → Leads i j p → (x : L) × (d i j ≡ Some x) × (k.at_most (path_length k p) x ≡ true)
     rival_walk [] i j li lj few drawn leads =
         (k.zero, rw (← leads) (metric.itself i li), reflexive k laws k.zero (omega (arith, laws.measure_zero)))
     rival_walk (r ∷ p) i j li lj few drawn leads =
@@ -149,7 +149,7 @@ module _ {L : Type 0} (k : Kind L) (laws : Laws k) (n : ℕ) (rules : List (Rule
           (cases_eq e a)
 
       -- Along a path of the rival as long as the distance: each mark lies in one of the two groups, so some rule crosses.
-      crossing : (p : List (Rule L)) (x : ℕ) (s : L) → x < n → length p ≤ 256 → All (Has rival) p → Leads x b p → leader k d x ≡ a → d a x ≡ Some s → k.at_most w (k.sum s (path_length k p)) ≡ true → Has (map (key k d) rival) (pair_of a b)
+      crossing : (p : List (Rule L)) (x : ℕ) (s : L) → x < n → length p ≤ 256 → Every (Has rival) p → Leads x b p → leader k d x ≡ a → d a x ≡ Some s → k.at_most w (k.sum s (path_length k p)) ≡ true → Has (map (key k d) rival) (pair_of a b)
       crossing [] x s lx few drawn leads x_in e long = absurd (ne (sym x_in ∙ ap (leader k d) leads ∙ (leaders_has k laws n d metric b hb).1))
       crossing (r ∷ p) x s lx few drawn leads x_in e long =
           let la = (leaders_has k laws n d metric a ha).0 in
@@ -201,7 +201,7 @@ module _ {L : Type 0} (k : Kind L) (laws : Laws k) (n : ℕ) (rules : List (Rule
         not-true (any (splits k d a b) (leaders k d n)) (and_parts (is_some (d a b)) (not (any (splits k d a b) (leaders k d n))) (and_parts (not (eqb a b)) rest e).1).1
 
     -- Each key of the reduced list is a key of the rival.
-    keys_occur : All (Has (map (key k d) rival)) (reduced_keys k d n)
+    keys_occur : Every (Has (map (key k d) rival)) (reduced_keys k d n)
     unfolding reduced_keys
     keys_occur =
         all_from_has (Has (map (key k d) rival)) (reduced_keys k d n) (λ z h.

@@ -1,6 +1,6 @@
 -- Lists made by selecting, counting and joining: what they have, no repetition, and how many elements.
 use Rattle.std.proofs.Common.{◌≡◌, ℕ, zero, suc, ◌+◌, ◌<◌, ◌≤◌, Bool, true, false, List, [], ◌∷◌, ◌++◌, map, length, filter, sym, refl, ap, ◌∙◌, ⊎_elim, arith}
-use Rattle.std.specs.List.{range_with_len, ContainsAt as Has, flat_map, AllByRecursion as All}
+use Rattle.std.specs.List.{range_with_len, ContainsAt as Has, flat_map, AllByRecursion as Every}
 use Rattle.std.proofs.lemmas.List.{length-append}
 use Rattle.std.proofs.ByRecursion.{All-append, has_append_left, has_append_right}
 use Rattle.std.proofs.lemmas.Bool.{cond_both, both_ways, or_cases, or_parts, cases_eq}
@@ -115,12 +115,12 @@ module _ {X Z : Type 0} (f : X → List Z) where
       ⊎_elim (λ l. (y, has_here y xs, l)) (λ r. let s = joined_has xs z r in (s.0, has_there y s.0 xs s.1, s.2)) (has_append_cases (f y) (flat_map f xs) z h)
 
   -- What holds of all joined elements holds of each list's.
-  pub all_joined : (P : Z → Type 0) (xs : List X) (x : X) → All P (flat_map f xs) → Has xs x → All P (f x)
+  pub all_joined : (P : Z → Type 0) (xs : List X) (x : X) → Every P (flat_map f xs) → Has xs x → Every P (f x)
   all_joined P [] x a h = absurd (has_none x h)
   all_joined P (y ∷ xs) x a h =
       ⊎_elim (λ e. rw (← e) (all_left P (f y) (flat_map f xs) a)) (λ m. all_joined P xs x (all_right P (f y) (flat_map f xs) a) m) (has_cases y x xs h)
 
-  pub all_joined_from : (P : Z → Type 0) (xs : List X) → ((x : X) → Has xs x → All P (f x)) → All P (flat_map f xs)
+  pub all_joined_from : (P : Z → Type 0) (xs : List X) → ((x : X) → Has xs x → Every P (f x)) → Every P (flat_map f xs)
   all_joined_from P [] each = tt
   all_joined_from P (y ∷ xs) each = All-append P (f y) (flat_map f xs) (each y (has_here y xs)) (all_joined_from P xs (λ x h. each x (has_there y x xs h)))
 
