@@ -1,7 +1,7 @@
 // Distances in a table: which marks are tied, and which pairs a third mark splits.
 ghost use Rattle.std.specs.Prelude.{◌≡◌, ◌+◌, ◌*◌, ◌<◌, ◌≤◌, length};
 ghost use Rattle.graph.specs.Distances.{table_distance};
-ghost use Rattle.reduction.specs.Reduction.{equal, add_up, meet, tied as is_Tied, splits as is_split};
+ghost use Rattle.reduction.specs.Reduction.{equal, add_up, meet, tied as is_tied, splits as is_split};
 
 use lengths::length::Length;
 
@@ -69,7 +69,7 @@ pub(crate) fn tied<L: Length>(marks: usize, table: &[L], from: usize, to: usize)
     requires few { marks ≤ 256 }
     requires below { (from < marks) × (to < marks) }
     requires long { marks * marks ≤ length table.now }
-    ensures { result ≡ is_Tied L.kind (table_distance L.kind table.now marks) from to }
+    ensures { result ≡ is_tied L.kind (table_distance L.kind table.now marks) from to }
 {
     let there = distance(marks, table, from, to);
     let back = distance(marks, table, to, from);
