@@ -1,7 +1,7 @@
 -- What an entry answers, and what it leaves.
-use Rattle.std.proofs.Common.{◌≡◌, ℕ, ◌+◌, ◌<◌, Bool, true, false, cond, eqb, leb, List, [], ◌∷◌, ◌++◌, length, take, is_some, is_ok, Some, None, Ok, Err, Option, Result, sym, refl, ap, ◌∙◌, subst, arith, MatchOption}
+use Rattle.std.proofs.Common.{◌≡◌, ℕ, ◌+◌, ◌<◌, ◌≤◌, Bool, true, false, cond, eqb, leb, List, [], ◌∷◌, ◌++◌, length, take, is_some, is_ok, Some, None, Ok, Err, Option, Result, sym, refl, ap, ◌∙◌, subst, arith, MatchOption}
 use Rattle.std.proofs.lemmas.List.{length-take, take_more_set}
-use Rattle.std.proofs.lemmas.Bool.{cond-true, cond-false, eq-eqb, ne_eqb, leb-true, lt-leb, false≢true}
+use Rattle.std.proofs.lemmas.Bool.{cond-true, cond-false, eq-eqb, ne_eqb, leb-true, le-leb, lt-leb, false≢true}
 use Rattle.lengths.specs.Kind.{Kind}
 use Rattle.rules.specs.Rule.{rule_check}
 use Rattle.rules.specs.declared.fault.RuleFault.{RuleFault}
@@ -11,7 +11,7 @@ use Rattle.cell.specs.Calls.{admission, entry_check, unfit_or}
 use Rattle.cell.specs.Memory.{book, memory, Appends, Enters}
 use Rattle.cell.specs.declared.cell.Cell.{Cell}
 use Rattle.faults.specs.declared.fault.EntryFault.{EntryFault}
-use Rattle.faults.specs.declared.fault.EntryFault.TheVariants.{Full, NoTag, Unfit}
+use Rattle.faults.specs.declared.fault.EntryFault.TheVariants.{Full, NoTag, TagInForce, Unfit}
 use Rattle.cell.specs.declared.record.Record.{Record}
 use Rattle.cell.proofs.Tags.{found_has}
 use Rattle.cell.proofs.Sound.{look_up_others, look_up_push, sound_to}
@@ -20,12 +20,21 @@ module _ {L : Type 0} (k : Kind L) (n cap : ℕ) (book : List (Record L)) (tag :
   past_rule : entry_check k n cap book tag rule ≡ admission (has_tag book tag) (leb cap (length book))
   past_rule = cond-false (eqb tag 0) _ _ (ne_eqb tag 0 tagged) ∙ ap (λ r. unfit_or r (admission (has_tag book tag) (leb cap (length book)))) fits
 
+  pub in_force : has_tag book tag ≡ true → entry_check k n cap book tag rule ≡ Err TagInForce
+  in_force has = past_rule ∙ cond-true (has_tag book tag) _ _ has
+
+  pub full : has_tag book tag ≡ false → cap ≤ length book → entry_check k n cap book tag rule ≡ Err Full
+  full new h = past_rule ∙ cond-false (has_tag book tag) _ _ new ∙ cond-true (leb cap (length book)) _ _ (le-leb cap (length book) h)
+
   pub accepted : has_tag book tag ≡ false → length book < cap → entry_check k n cap book tag rule ≡ Ok tt
   accepted new h = past_rule ∙ cond-false (has_tag book tag) _ _ new ∙ cond-false (leb cap (length book)) _ _ (lt-leb cap (length book) h)
 
 -- the other faults are not Full
 pub no_tag_not_full : NoTag ≡ Full → ⊥
 no_tag_not_full e = let z : ◌≡◌ {A = ℕ} 0 1 = cc in omega arith
+
+pub in_force_not_full : TagInForce ≡ Full → ⊥
+in_force_not_full e = let z : ◌≡◌ {A = ℕ} 0 1 = cc in omega arith
 
 pub unfit_not_full : (fault : RuleFault) → Unfit fault ≡ Full → ⊥
 unfit_not_full fault e = let z : ◌≡◌ {A = ℕ} 0 1 = cc in omega arith
@@ -65,6 +74,14 @@ module _ {L : Type 0} where
       ∙ ap (λ r. unfit_or r (admission (has_tag book tag) (leb cap (length book)))) check
 
   -- what the search for a tag tells of the book
+  pub tag_found : (book : List (Record L)) (tag : ℕ) (found : Option ℕ) → MatchOption found (has_tag book tag ≡ false) (FoundAt book tag) → is_some found ≡ true → has_tag book tag ≡ true
+  tag_found book tag None told e = absurd (false≢true e)
+  tag_found book tag (Some i) told e = found_has book tag i told
+
+  pub tag_missed : (book : List (Record L)) (tag : ℕ) (found : Option ℕ) → MatchOption found (has_tag book tag ≡ false) (FoundAt book tag) → is_some found ≡ false → has_tag book tag ≡ false
+  tag_missed book tag None told e = told
+  tag_missed book tag (Some i) told e = absurd (false≢true (sym e))
+
   pub tag_known : (book : List (Record L)) (tag : ℕ) (found : Option ℕ) → MatchOption found (has_tag book tag ≡ false) (FoundAt book tag) → is_some found ≡ has_tag book tag
   tag_known book tag None told = sym told
   tag_known book tag (Some i) told = sym (found_has book tag i told)
