@@ -17,7 +17,7 @@ use Rattle.cell.specs.declared.record.Record.{Record}
 
 module _ {L : Type 0} (k : Kind L) (n : ℕ) where
   -- a record whose rule fits
-  abbrev Fits : Record L → Type 0
+  abbrev pub Fits : Record L → Type 0
   Fits r = is_ok (rule_check k n r.rule) ≡ true
 
   -- an accepted answer behind the check of a rule says that the rule fits
@@ -31,7 +31,7 @@ module _ {L : Type 0} (k : Kind L) (n : ℕ) where
   put_fits [] book to ys all = all
   put_fits (y ∷ ys) book to goods all = All-set Fits book to y goods.0 all
 
-  edited_fits : (records : ℕ) (book : List (Record L)) (e : Edit L) → Every Fits book → Every Fits (edited k n records book e)
+  pub edited_fits : (records : ℕ) (book : List (Record L)) (e : Edit L) → Every Fits book → Every Fits (edited k n records book e)
   edited_fits records book (Enter tag rule) all =
       let new : Record L = record { tag = tag; rule = rule } in
       cond_both (is_ok (entry_check k n records book tag rule)) (book ++ new ∷ []) book (Every Fits)

@@ -1,32 +1,23 @@
 -- A list of calls, one call on.
-use Rattle.std.proofs.Common.{◌≡◌, ℕ, ◌-◌, List, [], ◌∷◌, ◌++◌, map, length, drop, set, is_ok, Option, sym, refl, ap, ◌∙◌}
-use Rattle.std.proofs.lemmas.List.{length-set}
-use Rattle.std.proofs.lemmas.Bool.{cond_both}
+use Rattle.std.proofs.Common.{◌≡◌, ℕ, List, [], ◌∷◌, ◌++◌, map, length, Option, sym, refl, ap, ◌∙◌}
 use Rattle.lengths.specs.Kind.{Kind}
 use Rattle.rules.specs.declared.rule.Rule.{Rule}
 use Rattle.cell.specs.Book.{used}
-use Rattle.cell.specs.Calls.{copied, entry_check, place_of, put_first, withdrawal_check}
 use Rattle.cell.specs.Force.{book_rules, by_tag}
+use Rattle.cell.specs.declared.editing.Edit.TheVariants as edit
 use Rattle.cell.specs.declared.record.Record.{Record}
+use Rattle.cell.proofs.EditSteps.{length_edited}
 use Rattle.run.specs.Course.{after_from, after_memory_from, book_after, memory_after}
 use Rattle.run.specs.Promise.{calls, Faithful, Performs}
 use Rattle.run.specs.declared.turn.Call.{Call}
 use Rattle.run.specs.declared.turn.Call.TheVariants.{Compact, Enter, LookUp, Reduce, Try, Withdraw}
 use Rattle.run.specs.declared.turn.Turn.{Turn}
 
-length_put_first : {X : Type 0} (ys xs : List X) (to : ℕ) → length (put_first ys xs to) ≡ length xs
-length_put_first [] xs to = refl
-length_put_first (y ∷ ys) xs to = length-set xs to y
-
 module _ {L : Type 0} (k : Kind L) (n : ℕ) where
   -- no call makes the memory longer or shorter
   pub length_after : (memory book : List (Record L)) (call : Call L) → length (memory_after k n memory book call) ≡ length memory
-  length_after memory book (Enter tag rule) =
-      cond_both (is_ok (entry_check k n (used (length memory)) book tag rule)) (set memory (length book) (record { tag = tag; rule = rule })) memory
-      (λ m. length m ≡ length memory) (λ _. length-set memory (length book) (record { tag = tag; rule = rule })) (λ _. refl)
-  length_after memory book (Withdraw tag) =
-      cond_both (is_ok (withdrawal_check book tag)) (copied memory (length book - 1) (place_of book tag)) memory
-      (λ m. length m ≡ length memory) (λ _. length_put_first (drop (length book - 1) memory) memory (place_of book tag)) (λ _. refl)
+  length_after memory book (Enter tag rule) = length_edited k n memory book (edit.Enter tag rule)
+  length_after memory book (Withdraw tag) = length_edited k n memory book (edit.Withdraw tag)
   length_after memory book (LookUp tag) = refl
   length_after memory book Try = refl
   length_after memory book Compact = refl
