@@ -7,11 +7,11 @@ use Rattle.std.proofs.lemmas.Bool.{cases_lt, cond-true, cond-false, le-leb, lt-l
 use Rattle.lengths.specs.declared.grid.Grid.{Grid}
 use Rattle.rules.specs.Source.{too_many}
 use Rattle.rules.specs.declared.rule.Rule.{Rule}
-use Rattle.boxes.specs.Held.{Holds, source_places}
+use Rattle.boxes.specs.Held.{Holds, counted_places, source_places}
 use Rattle.boxes.specs.Places.{blank, box_limit, box_places, table_place, table_places, told, TellsPairs}
 use Rattle.boxes.specs.declared.figures.Figures.{Figures}
 use Rattle.boxes.specs.declared.source.BoxSource.{BoxSource}
-use Rattle.boxes.proofs.Tables.{few, many, row_below, column_below}
+use Rattle.boxes.proofs.Tables.{row_below, column_below}
 
 -- tables of rows that agree below n are equal
 same_table : (factor n : ℕ) (rows boxes : List Figures) → ((i : ℕ) → i < n → get_or rows i blank ≡ get_or boxes i blank) →
@@ -28,18 +28,18 @@ pub held_places : (s : BoxSource) (factor : ℕ) (boxes : List Figures) → Hold
 held_places s factor boxes h =
     ⊎_elim
     (λ (over : 90 < length boxes).
-    many s (omega (arith, h.many over))
+    ap (counted_places s.factor s.rows) (h.many over)
     ∙ sym (cond-false (leb (length boxes) box_limit) (table_places factor (length boxes) boxes) too_many (lt-leb (length boxes) box_limit over)))
     (λ (within : length boxes ≤ 90).
-    few s (omega (arith, (h.few within).0))
-    ∙ ap₂ (λ f n. table_places f n s.rows) h.of (h.few within).0
+    ap (counted_places s.factor s.rows) (h.few within).0
+    ∙ ap (λ f. table_places f (length boxes) s.rows) h.of
     ∙ same_table factor (length boxes) s.rows boxes (agree within)
     ∙ sym (cond-true (leb (length boxes) box_limit) (table_places factor (length boxes) boxes) too_many (le-leb (length boxes) box_limit within)))
     (cases_lt 90 (length boxes))
   where
     agree : length boxes ≤ 90 → (i : ℕ) → i < length boxes → get_or s.rows i blank ≡ get_or boxes i blank
     agree within i l =
-        sym (get_or-take s.count s.rows i blank (omega (arith, (h.few within).0)))
+        sym (get_or-take (length boxes) s.rows i blank l)
         ∙ ap (λ (xs : List Figures). get_or xs i blank) (h.few within).1
 
 pub pairs_told : (factor : ℕ) (boxes : List Figures) → TellsPairs factor boxes (box_places factor boxes)

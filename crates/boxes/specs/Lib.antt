@@ -1,4 +1,5 @@
 pub mod Fault
+pub mod Layer
 pub mod Lambda
 pub mod Box
 pub mod Places

@@ -1,17 +1,17 @@
-// Why a box cannot be made.
+// Why a box cannot be made, and the number of each refusal.
 ghost use Rattle.std.specs.Prelude.{◌≡◌};
 ghost use Rattle.boxes.specs.Fault.{box_fault_number};
 
-use std::fmt;
+use thiserror::Error;
 
-#[derive(Clone, Copy, PartialEq, Eq, Debug)]
+#[derive(Clone, Copy, PartialEq, Eq, Debug, Error)]
 pub enum BoxFault {
-    // The left mark is not below the right mark.
-    LeftNotBelowRight,
-    // The bottom is not below the top.
-    BottomNotBelowTop,
-    // The layer is above 2.
-    NoSuchLayer,
+    #[error("the left mark is not below the right mark")]
+    LeftNotBelowRight = 17,
+    #[error("the bottom is not below the top")]
+    BottomNotBelowTop = 18,
+    #[error("there is no such layer")]
+    NoSuchLayer = 19,
 }
 
 impl BoxFault {
@@ -19,20 +19,6 @@ impl BoxFault {
     pub fn number(self) -> u32
         ensures { result ≡ box_fault_number self }
     {
-        match self {
-            BoxFault::LeftNotBelowRight => 17,
-            BoxFault::BottomNotBelowTop => 18,
-            BoxFault::NoSuchLayer => 19,
-        }
-    }
-}
-
-impl fmt::Display for BoxFault {
-    fn fmt<W: fmt::Write>(&self, f: &mut fmt::Formatter<W>) -> fmt::Result {
-        f.write_str(match self {
-            BoxFault::LeftNotBelowRight => "the left mark is not below the right mark",
-            BoxFault::BottomNotBelowTop => "the bottom is not below the top",
-            BoxFault::NoSuchLayer => "there is no such layer",
-        })
+        self as u32
     }
 }

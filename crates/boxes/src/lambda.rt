@@ -1,28 +1,21 @@
-// The lambda table: widths and spacings of the layers, in lambdas.
+// The lambda table by the numbers of layers, in lambdas. Any number may be asked for, also one that no layer has.
 ghost use Rattle.std.specs.Prelude.{◌≡◌};
 ghost use Rattle.boxes.specs.Lambda.{lambda_width, lambda_spacing};
 
-// The least width of a box of a layer.
+use crate::layer::Layer;
+
+// The least width of a box of a layer, by the layer's number; 0 where there is no such layer, as has been promised.
 pub fn width(layer: u8) -> u32
     ensures { result ≡ lambda_width layer }
 {
-    match layer {
-        0 => 12,
-        1 => 4,
-        2 => 2,
-        _ => 0,
-    }
+    Layer::try_from(layer).map_or(0, Layer::width)
 }
 
 // The least spacing of two boxes of these layers, where they have one.
 pub fn spacing(first: u8, second: u8) -> Option<u32>
     ensures { result ≡ lambda_spacing first second }
 {
-    match (first, second) {
-        (0, 0) => Some(12),
-        (1, 1) => Some(4),
-        (2, 2) => Some(3),
-        (1, 2) | (2, 1) => Some(2),
-        _ => None,
-    }
+    let first = Layer::try_from(first).ok()?;
+    let second = Layer::try_from(second).ok()?;
+    first.spacing(second)
 }

@@ -1,15 +1,18 @@
-// A layout box: figures whose left mark is below the right one, and whose bottom is below the top.
-ghost use Rattle.std.specs.Prelude.{◌≡◌, ◌<◌, ◌<ℤ◌, Ok, Err, MatchResult};
+// A layout box: figures of a layer that there is, whose left mark is below the right one, and whose bottom is below the top.
+ghost use Rattle.std.specs.Prelude.{◌≡◌, ◌<◌, ◌≤◌, ◌<ℤ◌, Ok, Err, MatchResult};
 ghost use Rattle.boxes.specs.Box.{box_check};
+ghost use Rattle.boxes.specs.Layer.{layer_number};
 
 use crate::fault::BoxFault;
 use crate::figures::Figures;
+use crate::layer::Layer;
 
 #[derive(Clone, Copy)]
 pub struct LayoutBox {
     figures: Figures,
     ghost marks: { figures.left < figures.right },
     ghost span: { figures.bottom <ℤ figures.top },
+    ghost layered: { figures.layer ≤ 2 },
 }
 
 impl LayoutBox {
@@ -23,9 +26,7 @@ impl LayoutBox {
         if figures.bottom >= figures.top {
             return Err(BoxFault::BottomNotBelowTop);
         }
-        if figures.layer > 2 {
-            return Err(BoxFault::NoSuchLayer);
-        }
+        Layer::try_from(figures.layer)?;
         Ok(LayoutBox { figures })
     }
 
@@ -36,5 +37,12 @@ impl LayoutBox {
         ensures span { result.bottom <ℤ result.top }
     {
         self.figures
+    }
+
+    // The layer of the box.
+    pub fn layer(&self) -> Layer
+        ensures { layer_number result ≡ self.now.figures.layer }
+    {
+        Layer::try_from(self.figures.layer).unwrap()
     }
 }

@@ -4,5 +4,6 @@
 pub mod fault;
 pub mod figures;
 pub mod lambda;
+pub mod layer;
 pub mod layout_box;
 pub mod source;

@@ -7,12 +7,12 @@ ghost use Rattle.faults.specs.declared.fault.ReductionFault.TheVariants as reduc
 ghost use Rattle.faults.specs.declared.fault.TrialFault.TheVariants.{BadSource};
 
 use rules::fault::RuleFault;
-use std::fmt;
+use thiserror::Error;
 
-#[derive(Clone, Copy, PartialEq, Eq, Debug)]
+#[derive(Clone, Copy, PartialEq, Eq, Debug, Error)]
 pub enum MarksFault {
-    // The number of marks is 0 or above 256.
-    MarkCount,
+    #[error("a cell has 1 to 256 marks")]
+    MarkCount = 1,
 }
 
 impl MarksFault {
@@ -20,26 +20,24 @@ impl MarksFault {
     pub fn number(self) -> u32
         ensures { result ≡ marks_fault_number self }
     {
-        match self {
-            MarksFault::MarkCount => 1,
-        }
+        self as u32
     }
 }
 
-#[derive(Clone, Copy, PartialEq, Eq, Debug)]
+#[derive(Clone, Copy, PartialEq, Eq, Debug, Error)]
 pub enum EntryFault {
-    // Tag 0 is no tag.
+    #[error("tag 0 is no tag")]
     NoTag,
-    // The rule does not fit the cell.
+    #[error(transparent)]
     Unfit(RuleFault),
-    // A rule is in force under the tag.
+    #[error("a rule is in force under the tag")]
     TagInForce,
-    // Every used record holds a rule in force.
+    #[error("every record holds a rule in force")]
     Full,
 }
 
 impl EntryFault {
-    // The number of the refusal.
+    // The number of the refusal. An enum with values has no numbers of its own to declare.
     pub fn number(self) -> u32
         ensures { result ≡ entry_fault_number self }
     {
@@ -52,6 +50,7 @@ impl EntryFault {
     }
 }
 
+// Written out, as the two kinds of `From` below: the derived one does not say which variant it makes, and contracts do.
 impl From<RuleFault> for EntryFault {
     ghost from_gives = { λ f r. r ≡ Unfit f };
 
@@ -60,12 +59,12 @@ impl From<RuleFault> for EntryFault {
     }
 }
 
-#[derive(Clone, Copy, PartialEq, Eq, Debug)]
+#[derive(Clone, Copy, PartialEq, Eq, Debug, Error)]
 pub enum WithdrawalFault {
-    // Tag 0 is no tag.
-    NoTag,
-    // No rule is in force under the tag.
-    TagNotInForce,
+    #[error("tag 0 is no tag")]
+    NoTag = 2,
+    #[error("no rule is in force under the tag")]
+    TagNotInForce = 8,
 }
 
 impl WithdrawalFault {
@@ -73,31 +72,30 @@ impl WithdrawalFault {
     pub fn number(self) -> u32
         ensures { result ≡ withdrawal_fault_number self }
     {
-        match self {
-            WithdrawalFault::NoTag => 2,
-            WithdrawalFault::TagNotInForce => 8,
-        }
+        self as u32
     }
 }
 
-#[derive(Clone, Copy, PartialEq, Eq, Debug)]
+#[derive(Clone, Copy, PartialEq, Eq, Debug, Error)]
 pub enum SourceFault {
-    // The source has more than 8,192 places.
+    #[error("the source has more than 8,192 places")]
     TooManyPlaces,
-    // The rule at a place does not fit the cell.
+    #[error("the rule at place {0} is unfit: {1}")]
     UnfitPlace(usize, RuleFault),
 }
 
-#[derive(Clone, Copy, PartialEq, Eq, Debug)]
+#[derive(Clone, Copy, PartialEq, Eq, Debug, Error)]
 pub enum TrialFault {
-    // The source is refused.
+    #[error(transparent)]
     BadSource(SourceFault),
-    // The row has fewer entries than the cell has marks.
+    #[error("the row is shorter than the number of marks")]
     ShortRow,
     // Mark 0 does not lie at zero, or a mark lies too far.
+    #[error("mark {0} may not lie where it does")]
     BadMark(usize),
 }
 
+// One for each of the three calls with a source: each names its own variant.
 impl From<SourceFault> for TrialFault {
     ghost from_gives = { λ f r. r ≡ BadSource f };
 
@@ -106,15 +104,16 @@ impl From<SourceFault> for TrialFault {
     }
 }
 
-#[derive(Clone, Copy, PartialEq, Eq, Debug)]
+#[derive(Clone, Copy, PartialEq, Eq, Debug, Error)]
 pub enum CompactionFault {
-    // The source is refused.
+    #[error(transparent)]
     BadSource(SourceFault),
-    // The row has fewer entries than the cell has marks.
+    #[error("the row is shorter than the number of marks")]
     ShortRow,
-    // The cycle list has fewer entries than the cell has marks.
+    #[error("the cycle list is shorter than the number of marks")]
     ShortList,
-    // The rules in force have a positive cycle, shown by so many numbers.
+    // A positive cycle of so many rules in force, shown by their numbers.
+    #[error("over-constrained, by a cycle of {0} rules")]
     OverConstrained(usize),
 }
 
@@ -126,15 +125,16 @@ impl From<SourceFault> for CompactionFault {
     }
 }
 
-#[derive(Clone, Copy, PartialEq, Eq, Debug)]
+#[derive(Clone, Copy, PartialEq, Eq, Debug, Error)]
 pub enum ReductionFault {
-    // The source is refused.
+    #[error(transparent)]
     BadSource(SourceFault),
-    // The table has fewer entries than there are pairs of marks.
+    #[error("the table has fewer entries than there are pairs of marks")]
     ShortTable,
     // The rules in force have a positive cycle.
+    #[error("over-constrained")]
     OverConstrained,
-    // The result list has fewer entries than the so many rules of the reduced list.
+    #[error("the result list is shorter than the {0} rules of the reduced list")]
     ShortList(usize),
 }
 
@@ -143,33 +143,5 @@ impl From<SourceFault> for ReductionFault {
 
     fn from(fault: SourceFault) -> ReductionFault {
         ReductionFault::BadSource(fault)
-    }
-}
-
-impl fmt::Display for MarksFault {
-    fn fmt<W: fmt::Write>(&self, f: &mut fmt::Formatter<W>) -> fmt::Result {
-        match self {
-            MarksFault::MarkCount => f.write_str("a cell has 1 to 256 marks"),
-        }
-    }
-}
-
-impl fmt::Display for EntryFault {
-    fn fmt<W: fmt::Write>(&self, f: &mut fmt::Formatter<W>) -> fmt::Result {
-        match self {
-            EntryFault::NoTag => f.write_str("tag 0 is no tag"),
-            EntryFault::Unfit(fault) => write!(f, "{fault}"),
-            EntryFault::TagInForce => f.write_str("a rule is in force under the tag"),
-            EntryFault::Full => f.write_str("every record holds a rule in force"),
-        }
-    }
-}
-
-impl fmt::Display for WithdrawalFault {
-    fn fmt<W: fmt::Write>(&self, f: &mut fmt::Formatter<W>) -> fmt::Result {
-        f.write_str(match self {
-            WithdrawalFault::NoTag => "tag 0 is no tag",
-            WithdrawalFault::TagNotInForce => "no rule is in force under the tag",
-        })
     }
 }

@@ -1,158 +1,119 @@
 // A refusal in numbers: which it is, and the values that go with it.
-ghost use Rattle.std.specs.Prelude.{◌≡◌};
-ghost use Rattle.faults.specs.Refusal.{source_refusal, trial_refusal, compaction_refusal, reduction_refusal};
+ghost use Rattle.std.specs.Prelude.{◌≡◌, Some, None};
+ghost use Rattle.faults.specs.Refusal.{refusal, marks_refusal, entry_refusal, withdrawal_refusal, source_refusal, trial_refusal, compaction_refusal, reduction_refusal};
 
-use crate::fault::{CompactionFault, ReductionFault, SourceFault, TrialFault};
-use std::fmt;
+use crate::fault::{
+    CompactionFault, EntryFault, MarksFault, ReductionFault, SourceFault, TrialFault,
+    WithdrawalFault,
+};
+use rules::fault::RuleFault;
 
-// The number of the refusal; the place, mark or length that goes with it, and the number of the cause within it, 0 where
-// there is none.
+// The number of the refusal; the place, mark or length that goes with it, if any; the cause within it, if there is one.
 #[derive(Clone, Copy, PartialEq, Eq, Debug)]
 pub struct Refusal {
     pub number: u32,
-    pub at: usize,
-    pub cause: u32,
+    pub at: Option<usize>,
+    pub cause: Option<RuleFault>,
 }
 
-impl SourceFault {
-    pub fn refusal(self) -> Refusal
-        ensures { result ≡ source_refusal self }
-    {
-        match self {
-            SourceFault::TooManyPlaces => Refusal {
-                number: 9,
-                at: 0,
-                cause: 0,
-            },
+// The numbers below stand here: an enum with values has none of its own to declare.
+
+// A refusal that has nothing but its number.
+fn plain(number: u32) -> Refusal
+    ensures { result ≡ refusal number None None }
+{
+    Refusal {
+        number,
+        at: None,
+        cause: None,
+    }
+}
+
+// A refusal with the place, mark or length that it tells.
+fn telling(number: u32, at: usize) -> Refusal
+    ensures { result ≡ refusal number (Some at) None }
+{
+    Refusal {
+        number,
+        at: Some(at),
+        cause: None,
+    }
+}
+
+// Three of one line: an `impl` for all faults with a number would overlap with those that tell more, below.
+impl From<MarksFault> for Refusal {
+    ghost from_gives = { λ fault r. r ≡ marks_refusal fault };
+
+    fn from(fault: MarksFault) -> Refusal {
+        plain(fault.number())
+    }
+}
+
+impl From<EntryFault> for Refusal {
+    ghost from_gives = { λ fault r. r ≡ entry_refusal fault };
+
+    fn from(fault: EntryFault) -> Refusal {
+        plain(fault.number())
+    }
+}
+
+impl From<WithdrawalFault> for Refusal {
+    ghost from_gives = { λ fault r. r ≡ withdrawal_refusal fault };
+
+    fn from(fault: WithdrawalFault) -> Refusal {
+        plain(fault.number())
+    }
+}
+
+impl From<SourceFault> for Refusal {
+    ghost from_gives = { λ fault r. r ≡ source_refusal fault };
+
+    fn from(fault: SourceFault) -> Refusal {
+        match fault {
+            SourceFault::TooManyPlaces => plain(9),
             SourceFault::UnfitPlace(place, cause) => Refusal {
                 number: 10,
-                at: place,
-                cause: cause.number(),
+                at: Some(place),
+                cause: Some(cause),
             },
         }
     }
 }
 
-impl TrialFault {
-    pub fn refusal(self) -> Refusal
-        ensures { result ≡ trial_refusal self }
-    {
-        match self {
-            TrialFault::BadSource(fault) => fault.refusal(),
-            TrialFault::ShortRow => Refusal {
-                number: 11,
-                at: 0,
-                cause: 0,
-            },
-            TrialFault::BadMark(mark) => Refusal {
-                number: 14,
-                at: mark,
-                cause: 0,
-            },
+impl From<TrialFault> for Refusal {
+    ghost from_gives = { λ fault r. r ≡ trial_refusal fault };
+
+    fn from(fault: TrialFault) -> Refusal {
+        match fault {
+            TrialFault::BadSource(fault) => Refusal::from(fault),
+            TrialFault::ShortRow => plain(11),
+            TrialFault::BadMark(mark) => telling(14, mark),
         }
     }
 }
 
-impl CompactionFault {
-    pub fn refusal(self) -> Refusal
-        ensures { result ≡ compaction_refusal self }
-    {
-        match self {
-            CompactionFault::BadSource(fault) => fault.refusal(),
-            CompactionFault::ShortRow => Refusal {
-                number: 11,
-                at: 0,
-                cause: 0,
-            },
-            CompactionFault::ShortList => Refusal {
-                number: 12,
-                at: 0,
-                cause: 0,
-            },
-            CompactionFault::OverConstrained(length) => Refusal {
-                number: 15,
-                at: length,
-                cause: 0,
-            },
+impl From<CompactionFault> for Refusal {
+    ghost from_gives = { λ fault r. r ≡ compaction_refusal fault };
+
+    fn from(fault: CompactionFault) -> Refusal {
+        match fault {
+            CompactionFault::BadSource(fault) => Refusal::from(fault),
+            CompactionFault::ShortRow => plain(11),
+            CompactionFault::ShortList => plain(12),
+            CompactionFault::OverConstrained(length) => telling(15, length),
         }
     }
 }
 
-impl ReductionFault {
-    pub fn refusal(self) -> Refusal
-        ensures { result ≡ reduction_refusal self }
-    {
-        match self {
-            ReductionFault::BadSource(fault) => fault.refusal(),
-            ReductionFault::ShortTable => Refusal {
-                number: 13,
-                at: 0,
-                cause: 0,
-            },
-            ReductionFault::OverConstrained => Refusal {
-                number: 15,
-                at: 0,
-                cause: 0,
-            },
-            ReductionFault::ShortList(count) => Refusal {
-                number: 16,
-                at: count,
-                cause: 0,
-            },
-        }
-    }
-}
+impl From<ReductionFault> for Refusal {
+    ghost from_gives = { λ fault r. r ≡ reduction_refusal fault };
 
-impl fmt::Display for SourceFault {
-    fn fmt<W: fmt::Write>(&self, f: &mut fmt::Formatter<W>) -> fmt::Result {
-        match self {
-            SourceFault::TooManyPlaces => f.write_str("the source has more than 8,192 places"),
-            SourceFault::UnfitPlace(place, cause) => write!(
-                f,
-                "the rule at place {place} is unfit: {cause}"
-            ),
-        }
-    }
-}
-
-impl fmt::Display for TrialFault {
-    fn fmt<W: fmt::Write>(&self, f: &mut fmt::Formatter<W>) -> fmt::Result {
-        match self {
-            TrialFault::BadSource(fault) => write!(f, "{fault}"),
-            TrialFault::ShortRow => f.write_str("the row is shorter than the number of marks"),
-            TrialFault::BadMark(mark) => write!(f, "mark {mark} may not lie where it does"),
-        }
-    }
-}
-
-impl fmt::Display for CompactionFault {
-    fn fmt<W: fmt::Write>(&self, f: &mut fmt::Formatter<W>) -> fmt::Result {
-        match self {
-            CompactionFault::BadSource(fault) => write!(f, "{fault}"),
-            CompactionFault::ShortRow => f.write_str("the row is shorter than the number of marks"),
-            CompactionFault::ShortList => f.write_str(
-                "the cycle list is shorter than the number of marks",
-            ),
-            CompactionFault::OverConstrained(length) => write!(
-                f,
-                "over-constrained, by a cycle of {length} rules"
-            ),
-        }
-    }
-}
-
-impl fmt::Display for ReductionFault {
-    fn fmt<W: fmt::Write>(&self, f: &mut fmt::Formatter<W>) -> fmt::Result {
-        match self {
-            ReductionFault::BadSource(fault) => write!(f, "{fault}"),
-            ReductionFault::ShortTable => f.write_str(
-                "the table has fewer entries than there are pairs of marks",
-            ),
-            ReductionFault::OverConstrained => f.write_str("over-constrained"),
-            ReductionFault::ShortList(count) => write!(
-                f,
-                "the result list is shorter than the {count} rules of the reduced list"
-            ),
+    fn from(fault: ReductionFault) -> Refusal {
+        match fault {
+            ReductionFault::BadSource(fault) => Refusal::from(fault),
+            ReductionFault::ShortTable => plain(13),
+            ReductionFault::OverConstrained => plain(15),
+            ReductionFault::ShortList(count) => telling(16, count),
         }
     }
 }

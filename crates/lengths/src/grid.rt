@@ -4,7 +4,7 @@ ghost use Rattle.std.proofs.Common.{rules};
 
 use crate::length::Length;
 
-#[derive(Clone, Copy, PartialEq, Eq, Debug)]
+#[derive(Clone, Copy, PartialEq, Eq, PartialOrd, Ord, Debug)]
 pub struct Grid {
     pub steps: i64,
 }
@@ -31,7 +31,7 @@ impl Length for Grid {
     }
 
     fn at_most(self, other: Grid) -> bool {
-        self.steps <= other.steps
+        self <= other
     }
 
     fn measure(self) -> u64 {

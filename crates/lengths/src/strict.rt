@@ -4,7 +4,8 @@ ghost use Rattle.lengths.specs.StrictLaws.{strict_laws};
 
 use crate::length::Length;
 
-#[derive(Clone, Copy, PartialEq, Eq, Debug)]
+// The derived order is that of strict lengths: by grid steps, then by least steps.
+#[derive(Clone, Copy, PartialEq, Eq, PartialOrd, Ord, Debug)]
 pub struct Strict {
     pub steps: i64,
     pub least: i64,
@@ -34,7 +35,7 @@ impl Length for Strict {
     }
 
     fn at_most(self, other: Strict) -> bool {
-        self.steps < other.steps || (self.steps == other.steps && self.least <= other.least)
+        self <= other
     }
 
     fn measure(self) -> u64 {

@@ -2,4 +2,4 @@ pub mod Fault
 pub mod Rule
 pub mod Source
 pub mod Limited
-pub mod Either
+pub mod Choice

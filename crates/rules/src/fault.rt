@@ -1,17 +1,17 @@
-// Why a rule does not fit a cell.
+// Why a rule does not fit a cell, and the number of each refusal.
 ghost use Rattle.std.specs.Prelude.{◌≡◌};
 ghost use Rattle.rules.specs.Fault.{rule_fault_number};
 
-use std::fmt;
+use thiserror::Error;
 
-#[derive(Clone, Copy, PartialEq, Eq, Debug)]
+#[derive(Clone, Copy, PartialEq, Eq, Debug, Error)]
 pub enum RuleFault {
-    // A mark is not below the number of marks.
-    NoSuchMark,
-    // The rule leads from a mark to itself.
-    SameMark,
-    // The measure of the gap is above the limit.
-    GapTooLarge,
+    #[error("a mark is not below the number of marks")]
+    NoSuchMark = 3,
+    #[error("both marks are the same")]
+    SameMark = 4,
+    #[error("the gap is larger than 1,000,000")]
+    GapTooLarge = 5,
 }
 
 impl RuleFault {
@@ -19,20 +19,6 @@ impl RuleFault {
     pub fn number(self) -> u32
         ensures { result ≡ rule_fault_number self }
     {
-        match self {
-            RuleFault::NoSuchMark => 3,
-            RuleFault::SameMark => 4,
-            RuleFault::GapTooLarge => 5,
-        }
-    }
-}
-
-impl fmt::Display for RuleFault {
-    fn fmt<W: fmt::Write>(&self, f: &mut fmt::Formatter<W>) -> fmt::Result {
-        f.write_str(match self {
-            RuleFault::NoSuchMark => "a mark is not below the number of marks",
-            RuleFault::SameMark => "both marks are the same",
-            RuleFault::GapTooLarge => "the gap is larger than 1,000,000",
-        })
+        self as u32
     }
 }

@@ -1,7 +1,7 @@
 // Rules between marks, the check of a rule, and sources of rules.
 #![tactic(auto)]
 
-pub mod either;
+pub mod choice;
 pub mod empty;
 pub mod fault;
 pub mod joined;

@@ -1,9 +1,0 @@
-pub mod Book
-pub mod Calls
-pub mod Memory
-pub mod Edits
-pub mod Force
-pub mod Trial
-pub mod Compaction
-pub mod Reduction
-pub mod Findings

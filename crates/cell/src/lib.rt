@@ -1,9 +1,0 @@
-// The cell: its marks, its rule memory, and the calls on it.
-#![tactic(auto)]
-
-pub mod cell;
-pub mod editing;
-mod force;
-pub mod memory;
-pub mod record;
-mod row;

@@ -1,7 +1,0 @@
-// The reduced list of a table of distances: groups of tied marks as rings, and the pairs of leaders that no third one splits.
-#![tactic(auto)]
-
-mod leading;
-mod listing;
-pub mod reduction;
-mod tie;

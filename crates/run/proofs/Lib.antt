@@ -1,4 +1,0 @@
-pub mod BookFits
-pub mod Courses
-pub mod Stepping
-pub mod Turns
