@@ -1,0 +1,14 @@
+pub mod Tags
+pub mod Sound
+pub mod Striking
+pub mod Entries
+pub mod Withdrawals
+pub mod EditSteps
+pub mod BookFits
+pub mod Gathering
+pub mod ForceFits
+pub mod Trying
+pub mod Tables
+pub mod Compactions
+pub mod Reductions
+pub mod NoFindings

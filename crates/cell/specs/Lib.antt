@@ -1,0 +1,11 @@
+pub mod Book
+pub mod Calls
+pub mod Memory
+pub mod Edits
+pub mod Force
+pub mod Trial
+pub mod Compaction
+pub mod Reduction
+pub mod Findings
+pub mod Origin
+pub mod Blank
