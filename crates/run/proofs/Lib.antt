@@ -1,0 +1,4 @@
+pub mod BookFits
+pub mod Courses
+pub mod Stepping
+pub mod Turns
