@@ -10,19 +10,6 @@ use Rattle.cell.proofs.EditSteps.{book_on, length_edited, memory_on}
 use Rattle.cell.proofs.Entries.{length_book}
 use Rattle.cell.proofs.editing.edit_all.Goals as goal
 
-pub loop-edit-init : goal.loop-edit-init
-loop-edit-init g c =
-    let k = g.L.Length.kind in
-    let cell = c.new-cell.result in
-    let n = cell_marks c.args.count in
-    let none : book cell ≡ [] = ap (λ m. take m (memory cell)) c.new-cell.ensures.filled_are in (
-      refl,
-      c.new-cell.ensures.marks_are,
-      refl,
-      ap (λ b. after_from k n (used (length (memory cell))) b c.args.edits.now) none,
-      ap (λ b. after_memory_from k n (memory cell) b c.args.edits.now) none,
-    )
-
 pub loop-edit-preserved : goal.loop-edit-preserved
 loop-edit-preserved g c =
     let k = g.L.Length.kind in

@@ -5,22 +5,6 @@ use Rattle.run.specs.Course.{book_after, memory_after}
 use Rattle.run.proofs.Turns.{packs, reduces}
 use Rattle.run.proofs.run.perform.Goals as goal
 
-pub returns-in-Compact : goal.returns-in-Compact
-returns-in-Compact g c =
-    let k = g.L.Length.kind in
-    let cell = c.args.cell.now in
-    let t = c.args.turn.now in
-    let records = used (length (memory cell)) in
-    record {
-      marks = refl;
-      lent = refl;
-      book = sym (ap (book_after k cell.marks records (book cell)) c.in-Compact.is);
-      memory = sym (ap (memory_after k cell.marks (memory cell) (book cell)) c.in-Compact.is);
-      performs = packs k g.S.Source.listing cell.marks records (book cell) t c.in-Compact.is c.deref_mut.result.now c.compact-answer.new.row
-          c.deref_mut-in-Compact.result.now c.compact-answer.new.cycle c.compact-answer.result c.deref_mut.ensures.value c.deref_mut-in-Compact.ensures.value
-          c.compact-answer.auto.row c.compact-answer.auto.cycle c.compact-answer.ensures.does c.compact-answer.ensures.right;
-    }
-
 pub returns-in-Reduce : goal.returns-in-Reduce
 returns-in-Reduce g c =
     let k = g.L.Length.kind in

@@ -8,9 +8,6 @@ use Rattle.cell.proofs.cell.Cell.withdraw.Goals as goal
 pub returns-then-tag-eq0 : goal.returns-then-tag-eq0
 returns-then-tag-eq0 g c = refused c.args.self.now c.args.tag _ (zero_tag (book c.args.self.now) c.args.tag c.if-tag-eq0.true)
 
-pub strike-requires : goal.strike-requires
-strike-requires g c = omega (arith, length_book c.args.self.now, c.in-Some.ensures.within)
-
 pub returns-in-Some : goal.returns-in-Some
 returns-in-Some g c =
     let found = c.in-Some.ensures in

@@ -1,6 +1,0 @@
-pub mod Layout
-pub mod Designer
-pub mod Layers
-pub mod Phrases
-pub mod Tables
-pub mod Drawing

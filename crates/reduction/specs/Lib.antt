@@ -1,4 +1,0 @@
-pub mod Reduction
-pub mod Listing
-pub mod Laying
-pub mod Told
