@@ -1,0 +1,6 @@
+use Rattle.std.proofs.Common.{◌≡◌}
+use Rattle.graph.specs.Filling.{filled}
+use Rattle.graph.proofs.filling.fill.Given as goal
+
+abbrev pub invariant-loop-entry : goal.invariant-loop-entry
+invariant-loop-entry g l = l.entry-items ≡ filled l.entry-index l.value l.initial.entry-items

@@ -1,0 +1,17 @@
+pub mod Rows
+pub mod Paths
+pub mod Rivals
+pub mod Distances
+pub mod Midpoints
+pub mod Listed
+pub mod Trial
+pub mod Ready
+pub mod Rounds
+pub mod Chains
+pub mod Outcome
+pub mod Positions
+pub mod Cycles
+pub mod Packing
+pub mod Filling
+pub mod Overs
+pub mod Distancing
