@@ -1,0 +1,5 @@
+pub mod Kind
+pub mod Grid
+pub mod Strict
+pub mod Stored
+pub mod StrictLaws

@@ -1,0 +1,15 @@
+pub mod Selections
+pub mod Leaders
+pub mod Carrying
+pub mod SameCell
+pub mod Backing
+pub mod Keys
+pub mod NoRival
+pub mod ReducedTable
+pub mod Telling
+pub mod Laying
+pub mod Ringing
+pub mod Noting
+pub mod Pairing
+pub mod Reducing
+pub mod Promising

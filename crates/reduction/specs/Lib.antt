@@ -1,0 +1,4 @@
+pub mod Reduction
+pub mod Listing
+pub mod Laying
+pub mod Told
