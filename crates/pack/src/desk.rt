@@ -16,7 +16,7 @@ pub(crate) struct Desk<'d, 'm> {
     pub(crate) boxes: &'d [LayoutBox],
 }
 
-// What a refused call prints.
+// What a refused call prints. In weeks the words go by the call, so that each program has its own.
 pub(crate) fn print_refusal<F: Copy + Display + Into<Refusal>>(
     rt: &HostRuntime,
     fault: F,

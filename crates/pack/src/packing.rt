@@ -24,7 +24,8 @@ impl Desk<'_, '_> {
         Some(Numbered { number, rule })
     }
 
-    // The rules of a cycle, with their gaps and what they add to.
+    // The rules of a cycle, with their gaps and what they add to. Weeks reads them from a run, and the cell is asked here: what both print is one
+    // text already.
     fn print_cycle(&self, cycle: &[u32]) -> anyhow::Result<()> {
         let rt = self.rt;
         let rules: Vec<Numbered<Grid>> = cycle

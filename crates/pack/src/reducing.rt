@@ -11,6 +11,7 @@ use rules::listed::Listed;
 use rules::rule::Rule;
 
 impl Desk<'_, '_> {
+    // As for a cycle, the text is shared, and where its figures come from is not.
     fn print_reduced(&self, row: &[Grid], list: &[Rule<Grid>]) -> anyhow::Result<()> {
         let rt = self.rt;
         let reduced = Reduced {

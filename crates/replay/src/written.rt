@@ -1,5 +1,5 @@
-// Kinds of length as words: how a length is read and written. The kinds belong to another crate, so FromStr and Display
-// are not ours to give them.
+// Kinds of length as words: how a length is read and written. The words are of this program's format: FromStr and Display beside the kinds
+// themselves would promise them to everybody.
 use crate::number::number;
 use lengths::grid::Grid;
 use lengths::length::Length;
