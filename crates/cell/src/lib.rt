@@ -5,6 +5,7 @@ pub mod cell;
 pub mod editing;
 mod force;
 mod gathered;
+pub mod memory;
 pub mod origin;
 pub mod record;
 mod row;

@@ -5,20 +5,11 @@ ghost use Rattle.cell.specs.Calls.{admission};
 ghost use Rattle.cell.specs.Memory.{book, memory, Enters, Appends};
 
 use crate::cell::Cell;
+use crate::memory::used;
 use crate::record::Record;
 use faults::fault::EntryFault;
 use lengths::length::Length;
 use rules::rule::Rule;
-
-// The most records that a cell uses.
-const RECORD_LIMIT: usize = 4096;
-
-// How many of so many records are used.
-fn used(passed: usize) -> usize
-    ensures { result ≡ usable passed }
-{
-    passed.min(RECORD_LIMIT)
-}
 
 // Turns away a rule whose tag is in force, then one for which no record is free.
 fn admit(known: bool, full: bool) -> Result<(), EntryFault>
