@@ -21,16 +21,18 @@ use replay::replay_cell;
 use rules::empty::Empty;
 use std::io::Read;
 
-// Before the first cell no line is understood; the lines of a cell are read where it is made.
+// Before the first cell no line is understood, and none of those is read again; the lines of a cell are read where it is made.
 fn replay_all(rt: &HostRuntime, lines: &[&str]) -> anyhow::Result<()> {
-    for line in lines.iter().take_while(|line| read_making(line).is_none()) {
+    let first = lines.iter().position(|line| read_making(line).is_some());
+    let (before, cells) = lines.split_at(first.unwrap_or(lines.len()));
+    for line in before {
         if !passed_over(line) {
             println!(rt; "not understood")?;
         }
     }
-    for (i, line) in lines.iter().enumerate() {
+    for (i, line) in cells.iter().enumerate() {
         if let Some(new) = read_making(line) {
-            let rest = &lines[i + 1..];
+            let rest = &cells[i + 1..];
             match new.kind {
                 Kind::Grid => replay_cell::<Grid, BoxSource>(rt, new, rest)?,
                 Kind::Strict => replay_cell::<Strict, Empty>(rt, new, rest)?,
